@@ -1,0 +1,16 @@
+-- Sums and tests over lists. Assumes nothing.
+use mathlib.Core.Bool.{Bool, true, false, _&&_, _||_}
+use mathlib.Core.List.{List, [], _∷_}
+use Prim.Native.Nat.{ℕ, _+_}
+
+unfoldable pub sum : List ℕ → ℕ
+sum [] = 0
+sum (n ∷ ns) = n + sum ns
+
+unfoldable pub every : {A : Type 0} → (A → Bool) → List A → Bool
+every holds [] = true
+every holds (x ∷ xs) = holds x && every holds xs
+
+unfoldable pub some : {A : Type 0} → (A → Bool) → List A → Bool
+some holds [] = false
+some holds (x ∷ xs) = holds x || some holds xs
