@@ -1,0 +1,72 @@
+-- The bridge from the requirement in ℤ to natural numbers: a start is REV less the shortfall, which is what is left and what has
+-- yet to come back. Assumes nothing.
+use mathlib.Core.Path.{_≡_, refl, sym, ap, _∙_}
+use Prim.Native.Nat.{ℕ, zero, suc, _+_, _-_, _≤_}
+use native.Mathlib.Omega.{arith}
+use borrow.Author.Tests.{le-leb, lt-leb}
+use lib.IntN.{pos, _+ℤ_, _-ℤ_}
+use Rattle.signed.specs.Sign.{above, below}
+use Rattle.signed.proofs.Whole.{sum, less, same}
+use Rattle.requirement.specs.Requirement.{left, sched, back, start, end}
+
+module _ (ER : ℕ) (e : ℕ → ℕ) where
+  pub left-next : (i : ℕ) → left ER e (suc (suc i)) ≡ left ER e (suc i) + e (suc i) - sched ER e (suc i)
+  unfolding left sched
+  left-next i = refl
+
+  pub sched-le : (i : ℕ) → sched ER e i ≤ e i + left ER e i
+  unfolding sched
+  sched-le i = omega arith
+
+  pub back-none : (i : ℕ) → i ≤ 4 → back ER e i ≡ 0
+  unfolding back
+  back-none i h = rw (le-leb i 4 h)
+
+  pub back-later : (i : ℕ) → back ER e (suc (suc (suc (suc (suc i))))) ≡ sched ER e (suc i)
+  unfolding back
+  back-later i = rw (lt-leb (suc (suc (suc (suc (suc i))))) 4 (omega arith)) (ap (sched ER e) (omega arith))
+
+  unfoldable pub shortfall : ℕ → ℕ
+  shortfall zero = 0
+  shortfall (suc zero) = 0
+  shortfall (suc (suc i)) = shortfall (suc i) + e (suc i) - back ER e (suc i)
+
+  -- what is left, and what comes back in this period and the three after it
+  owed : (i : ℕ) → shortfall (suc i)
+      ≡ left ER e (suc i) + back ER e (suc i) + back ER e (suc (suc i)) + back ER e (suc (suc (suc i))) + back ER e (suc (suc (suc (suc i))))
+  unfolding shortfall left
+  owed zero = rw (back-none 1 (omega arith), back-none 2 (omega arith), back-none 3 (omega arith), back-none 4 (omega arith))
+  owed (suc i) = omega (arith, owed i, left-next i, back-later i, sched-le (suc i))
+
+  pub back-le : (i : ℕ) → back ER e i ≤ shortfall i
+  back-le zero = omega (arith, back-none 0 (omega arith))
+  back-le (suc i) = omega (arith, owed i)
+
+module _ (REV ER : ℕ) (e : ℕ → ℕ) where
+  pub start-next : (i : ℕ) → start REV ER e (suc (suc i)) ≡ end REV ER e (suc i)
+  unfolding start end
+  start-next i = refl
+
+  pub start-is : (i : ℕ) → start REV ER e i ≡ pos REV -ℤ pos (shortfall ER e i)
+  unfolding start shortfall
+  start-is zero = sym (ap pos (omega arith))
+  start-is (suc zero) = sym (ap pos (omega arith))
+  start-is (suc (suc i)) =
+      let s = start REV ER e (suc i) in
+      let b = back ER e (suc i) in
+      let k = shortfall ER e (suc i) in
+      same (s +ℤ pos b -ℤ pos (e (suc i))) (pos REV -ℤ pos (k + e (suc i) - b))
+      (omega (
+        arith,
+        ap above (start-is (suc i)),
+        ap below (start-is (suc i)),
+        back-le ER e (suc i),
+        sum s (pos b),
+        less (s +ℤ pos b) (pos (e (suc i))),
+        less (pos REV) (pos k),
+        less (pos REV) (pos (k + e (suc i) - b)),
+      ))
+
+  pub end-is : (i : ℕ) → end REV ER e (suc i) ≡ pos REV -ℤ pos (shortfall ER e (suc i) + e (suc i) - back ER e (suc i))
+  unfolding shortfall
+  end-is i = sym (start-next i) ∙ start-is (suc (suc i))

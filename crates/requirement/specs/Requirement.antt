@@ -1,0 +1,82 @@
+-- Paper 01, "Requirement, each direction alike": REV and ER are a direction's volumes, and e i is the bound of period i = 1, 2, ..
+-- There is no period 0: nothing reads what stands for it. Assumes nothing.
+use mathlib.Core.Bool.{Bool, cond, _||_}
+use mathlib.Core.List.{List, [], _∷_, _++_, map}
+use Prim.Native.Nat.{ℕ, zero, suc, _+_, _-_, min}
+use lib.Dec.{leb}
+use lib.IntN.{ℤ, pos, _+ℤ_, _-ℤ_}
+use lib.ListN.{getD}
+use lib.Signed.{leZ}
+use Rattle.requirement.specs.declared.Row.{Row}
+use Rattle.requirement.specs.declared.Table.{Table}
+
+-- ---- what is scheduled, and what comes back
+
+-- sched = min(e + left, ER)
+abbrev pub schedOf : ℕ → ℕ → ℕ → ℕ
+schedOf ER e left = min (e + left) ER
+
+module _ (ER : ℕ) (e : ℕ → ℕ) where
+  -- left(1) = 0; left(i+1) = left(i) + e(i) − sched(i)
+  unfoldable pub left : ℕ → ℕ
+  left zero = 0
+  left (suc zero) = 0
+  left (suc (suc i)) = left (suc i) + e (suc i) - schedOf ER (e (suc i)) (left (suc i))
+
+  unfoldable pub sched : ℕ → ℕ
+  sched i = schedOf ER (e i) (left i)
+
+  -- back(i) = 0 for i ≤ 4, else sched(i−4)
+  unfoldable pub back : ℕ → ℕ
+  back i = cond (leb i 4) 0 (sched (i - 4))
+
+-- ---- the requirement, which may be negative
+
+-- end = start + back − e
+abbrev pub endOf : ℤ → ℕ → ℕ → ℤ
+endOf start back e = start +ℤ pos back -ℤ pos e
+
+-- unavailability is allowed exactly when start ≤ 0 or end ≤ 0
+abbrev pub flagOf : ℤ → ℤ → Bool
+flagOf start end = leZ start (pos 0) || leZ end (pos 0)
+
+module _ (REV ER : ℕ) (e : ℕ → ℕ) where
+  -- start(1) = REV; start(i+1) = end(i)
+  unfoldable pub start : ℕ → ℤ
+  start zero = pos REV
+  start (suc zero) = pos REV
+  start (suc (suc i)) = endOf (start (suc i)) (back ER e (suc i)) (e (suc i))
+
+  unfoldable pub end : ℕ → ℤ
+  end i = endOf (start i) (back ER e i) (e i)
+
+  -- the row of period i
+  unfoldable pub rowOf : ℕ → Row
+  rowOf i =
+      record {
+        left = left ER e i;
+        sched = sched ER e i;
+        back = back ER e i;
+        start = start i;
+        end = end i;
+        flag = flagOf (start i) (end i);
+      }
+
+-- ---- a block
+
+-- the periods 1 to n
+unfoldable pub periodsTo : ℕ → List ℕ
+periodsTo zero = []
+periodsTo (suc n) = periodsTo n ++ (suc n ∷ [])
+
+-- the bound of period i, in a list of the bounds from period 1 on
+abbrev pub boundOf : List ℕ → ℕ → ℕ
+boundOf bounds i = getD bounds (i - 1) 0
+
+-- the rows of the eight periods; start(9) is the next start after period 8
+unfoldable pub tableOf : ℕ → ℕ → List ℕ → Table
+tableOf REV ER bounds =
+    record {
+      rows = map (rowOf REV ER (boundOf bounds)) (periodsTo 8);
+      start9 = start REV ER (boundOf bounds) 9;
+    }

@@ -1,0 +1,71 @@
+// The requirement of one direction over the eight periods of a block.
+ghost use mathlib.Core.Path.{_≡_};
+ghost use Prim.Native.Nat.{_+_, _-_, _≤_, _^_};
+ghost use lib.IntN.{pos, _-ℤ_};
+ghost use Rattle.requirement.specs.Requirement.{schedOf, flagOf, tableOf};
+
+// A period's requirement at its start and end, in kWh; flag: unavailability is allowed.
+pub struct Row {
+    pub left: u64,
+    pub sched: u64,
+    pub back: u64,
+    pub start: i64,
+    pub end: i64,
+    pub flag: bool,
+}
+
+// Periods 1 to 8, and the next start after them.
+pub struct Table {
+    pub rows: [Row; 8],
+    pub start9: i64,
+}
+
+// REV less a shortfall.
+fn less_shortfall(rev: u32, shortfall: u64) -> i64
+    requires { ⌜ shortfall ≤ 2 ^ 36 ⌝ }
+    ensures { λ r. ⌜ r ≡ pos rev -ℤ pos shortfall ⌝ }
+{
+    signed::difference(rev as u64, shortfall)
+}
+
+// A period's row, where its start is REV less the shortfall.
+fn row_of(rev: u32, er: u32, bound: u32, left: u64, back: u64, shortfall: u64) -> Row
+    requires { ⌜ (left ≤ 2 ^ 35) × (shortfall ≤ 2 ^ 35) × (back ≤ shortfall) ⌝ }
+    ensures { λ r. ⌜ r ≡ record { left = left; sched = schedOf er bound left; back = back; start = pos rev -ℤ pos shortfall; end = pos rev -ℤ pos (shortfall + bound - back); flag = flagOf (pos rev -ℤ pos shortfall) (pos rev -ℤ pos (shortfall + bound - back)) } ⌝ }
+{
+    let due = bound as u64 + left;
+    let next = shortfall + bound as u64 - back;
+    Row {
+        left,
+        sched: common::smaller(due, er as u64),
+        back,
+        start: less_shortfall(rev, shortfall),
+        end: less_shortfall(rev, next),
+        flag: (rev as u64 <= shortfall) | (rev as u64 <= next),
+    }
+}
+
+// The table of a direction. `backs` holds what comes back in each period, four periods ahead.
+pub fn table_of(rev: u32, er: u32, bounds: [u32; 8]) -> Table
+    ensures { λ r. ⌜ r ≡ tableOf rev er bounds ⌝ }
+{
+    let mut rows = [row_of(0, 0, 0, 0, 0, 0); 8];
+    let mut backs = [0u64; 12];
+    let mut left: u64 = 0;
+    let mut shortfall: u64 = 0;
+    let mut i: usize = 0;
+    while i < 8 {
+        let bound = bounds[i];
+        let back = backs[i];
+        let row = row_of(rev, er, bound, left, back, shortfall);
+        rows[i] = row;
+        backs[i + 4] = row.sched;
+        left = left + bound as u64 - row.sched;
+        shortfall = shortfall + bound as u64 - back;
+        i += 1;
+    }
+    Table {
+        rows,
+        start9: less_shortfall(rev, shortfall),
+    }
+}
