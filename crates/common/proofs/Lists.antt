@@ -1,11 +1,31 @@
 -- Sums and tests over lists. Assumes nothing.
-use mathlib.Core.Path.{_≡_, refl}
+use mathlib.Core.Path.{_≡_, sym, _∙_}
+use mathlib.Core.Bool.{Bool, true, false, _||_}
 use mathlib.Core.List.{List, [], _∷_, _++_}
-use Prim.Native.Nat.{ℕ, _+_}
+use Prim.Native.Nat.{ℕ, suc, _+_, _≤_, _<_}
+use native.Mathlib.Numerals.{add-one}
 use native.Mathlib.Omega.{arith}
-use Rattle.common.specs.Lists.{sum}
+use lib.ListN.{length, getD, drop, drop-of-length-le}
+use lib.Seq.{drop-cons}
+use Rattle.common.specs.Lists.{sum, some}
 
 pub sum-append : (ms ns : List ℕ) → sum (ms ++ ns) ≡ sum ms + sum ns
 unfolding sum
 sum-append [] ns = omega arith
 sum-append (m ∷ ms) ns = omega (arith, sum-append ms ns)
+
+-- ---- a loop that looks for an entry: what is left of the list says the same as the whole
+module _ {A : Type 0} (holds : A → Bool) (xs : List A) (i : ℕ) (d : A) where
+  some-split : i < length xs → some holds (drop i xs) ≡ holds (getD xs i d) || some holds (drop (suc i) xs)
+  unfolding some
+  some-split h = rw (drop-cons xs i d h)
+
+  pub some-found : i < length xs → some holds (drop i xs) ≡ some holds xs → holds (getD xs i d) ≡ true → true ≡ some holds xs
+  some-found h same t = sym (rw t at (some-split h)) ∙ same
+
+  pub some-passed : i < length xs → some holds (drop i xs) ≡ some holds xs → holds (getD xs i d) ≡ false → some holds (drop (i + 1) xs) ≡ some holds xs
+  some-passed h same t = rw (add-one i) (sym (rw t at (some-split h)) ∙ same)
+
+pub some-none : {A : Type 0} (holds : A → Bool) (xs : List A) (i : ℕ) → length xs ≤ i → some holds (drop i xs) ≡ some holds xs → false ≡ some holds xs
+unfolding some
+some-none holds xs i h same = rw (drop-of-length-le xs h) at same

@@ -1,16 +1,17 @@
 -- The loop of `table_of`: after i turns the first i rows are there, and `backs` has what comes back up to period i + 4.
 -- Assumes nothing.
 use mathlib.Core.Path.{_≡_, refl, sym, ap, _∙_}
-use mathlib.Core.List.{List, map, map-append}
+use mathlib.Core.List.{List, map}
 use Prim.Native.Nat.{ℕ, suc, _+_, _*_, _-_, _≤_, _<_, _^_}
 use native.Mathlib.Numerals.{add-one}
 use native.Mathlib.Omega.{arith}
 use borrow.Author.Count.{below-more}
 use lib.IntN.{pos, _-ℤ_}
 use lib.ListN.{getD, set, take, length, length-set, replicate, getD-replicate}
-use lib.Seq.{take-all, take-suc-set, getD-set-same, getD-set-other}
-use Rattle.requirement.specs.Requirement.{schedOf, flagOf, left, sched, back, rowOf, periodsTo, boundOf}
+use lib.Seq.{getD-set-same, getD-set-other}
+use Rattle.requirement.specs.Requirement.{schedOf, flagOf, left, sched, back, rowOf, periodsTo, ofPeriod}
 use Rattle.requirement.specs.declared.Row.{Row}
+use Rattle.requirement.proofs.Periods.{filled-next, filled-all}
 use Rattle.requirement.proofs.Shortfall.{shortfall, left-next, back-none, back-later, back-le, sched-le, start-is, end-is}
 
 -- the row that `row_of` makes
@@ -27,7 +28,7 @@ made REV ER bound left back shortfall =
 
 module _ (REV ER : ℕ) (bounds : List ℕ) where
   abbrev e : ℕ → ℕ
-  e = boundOf bounds
+  e = ofPeriod bounds
 
   abbrev rowsTo : ℕ → List Row
   rowsTo n = map (rowOf REV ER e) (periodsTo n)
@@ -65,7 +66,7 @@ module _ (REV ER : ℕ) (bounds : List ℕ) where
   pub done : {rows : List Row} {backs : List ℕ} {l s i : ℕ} → Filled rows backs l s i → 8 ≤ i → (rows ≡ rowsTo 8) × (s ≡ shortfall ER e 9)
   done {rows} {i} f h =
       let p : i ≡ 8 = omega arith in
-      (sym (take-all i rows (omega arith)) ∙ f .filled ∙ ap rowsTo p, f .short-is ∙ ap (λ (n : ℕ). shortfall ER e (suc n)) p)
+      (filled-all _ rows i 8 (f .rows-long) p (f .filled), f .short-is ∙ ap (λ (n : ℕ). shortfall ER e (suc n)) p)
 
   -- a turn, with the row that was made
   module _ {rows : List Row} {backs : List ℕ} {l s i : ℕ} (f : Filled rows backs l s i) (h : i < 8) where
@@ -90,7 +91,7 @@ module _ (REV ER : ℕ) (bounds : List ℕ) where
       sched-fits = omega (arith, sched-is, sched-le ER e (suc i), here)
 
       pub step : getD bounds i 0 < 2 ^ 32 → Filled (set rows i row) (set backs (i + 4) (row .sched)) (l + getD bounds i 0 - row .sched) (s + getD bounds i 0 - getD backs i 0) (i + 1)
-      unfolding shortfall periodsTo
+      unfolding shortfall
       step small =
           let n : i + 1 ≡ suc i = add-one i in
           record {
@@ -106,5 +107,5 @@ module _ (REV ER : ℕ) (bounds : List ℕ) where
                 (λ k lt. getD-set-other backs (i + 4) k (row .sched) 0 (omega arith) ∙ f .backs-are k lt)
                 (getD-set-same backs (i + 4) (row .sched) 0 (omega arith) ∙ sched-is ∙ sym (back-later ER e i) ∙ ap (back ER e) (omega arith))
                 k (omega arith);
-            filled = rw (n, take-suc-set rows i row (omega arith), f .filled, row-is, map-append);
+            filled = filled-next _ rows i row (omega arith) (f .filled) row-is;
           }

@@ -1,6 +1,6 @@
 -- What paper 01 says of every requirement, over any bounds and any number of periods. Assumes nothing.
 use mathlib.Core.Path.{_≡_, refl}
-use mathlib.Core.List.{map, map-append}
+use mathlib.Core.List.{map}
 use Prim.Native.Nat.{ℕ, zero, suc, _+_, _-_, _≤_, _<_}
 use native.Mathlib.Omega.{arith}
 use native.Mathlib.Decide.{decLe}
@@ -11,6 +11,7 @@ use Rattle.common.specs.Lists.{sum}
 use Rattle.common.proofs.Lists.{sum-append}
 use Rattle.signed.proofs.Whole.{whole, less}
 use Rattle.requirement.specs.Requirement.{left, sched, back, start, periodsTo}
+use Rattle.requirement.proofs.Periods.{map-next}
 use Rattle.requirement.proofs.Shortfall.{shortfall, left-next, sched-le, back-le, start-is}
 
 module _ (REV ER : ℕ) (e : ℕ → ℕ) where
@@ -27,8 +28,8 @@ module _ (REV ER : ℕ) (e : ℕ → ℕ) where
 -- after any periods, all e equal all sched plus left
 module _ (ER : ℕ) (e : ℕ → ℕ) where
   sum-next : (f : ℕ → ℕ) (n : ℕ) → sum (map f (periodsTo (suc n))) ≡ sum (map f (periodsTo n)) + f (suc n)
-  unfolding periodsTo sum
-  sum-next f n = rw (map-append, sum-append) (omega arith)
+  unfolding sum
+  sum-next f n = rw (map-next f n, sum-append) (omega arith)
 
   pub all-scheduled : (n : ℕ) → sum (map e (periodsTo n)) ≡ sum (map (sched ER e) (periodsTo n)) + left ER e (suc n)
   unfolding periodsTo sum left

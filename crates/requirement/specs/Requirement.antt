@@ -69,14 +69,14 @@ unfoldable pub periodsTo : ℕ → List ℕ
 periodsTo zero = []
 periodsTo (suc n) = periodsTo n ++ (suc n ∷ [])
 
--- the bound of period i, in a list of the bounds from period 1 on
-abbrev pub boundOf : List ℕ → ℕ → ℕ
-boundOf bounds i = getD bounds (i - 1) 0
+-- the entry of period i in a list that begins with period 1
+abbrev pub ofPeriod : List ℕ → ℕ → ℕ
+ofPeriod entries i = getD entries (i - 1) 0
 
 -- the rows of the eight periods; start(9) is the next start after period 8
 unfoldable pub tableOf : ℕ → ℕ → List ℕ → Table
 tableOf REV ER bounds =
     record {
-      rows = map (rowOf REV ER (boundOf bounds)) (periodsTo 8);
-      start9 = start REV ER (boundOf bounds) 9;
+      rows = map (rowOf REV ER (ofPeriod bounds)) (periodsTo 8);
+      start9 = start REV ER (ofPeriod bounds) 9;
     }

@@ -7,7 +7,7 @@ use lib.ListN.{getD}
 use mir.Syntax.{w32}
 use mir.Val.{Fits}
 use mir.Facts.{toZ-ofZ}
-use Rattle.requirement.specs.Requirement.{boundOf, tableOf}
+use Rattle.requirement.specs.Requirement.{ofPeriod, tableOf}
 use Rattle.requirement.proofs.Shortfall.{start-is}
 use Rattle.requirement.proofs.Filling.{Filled, begin, done, step, back-fits, sched-fits}
 use Rattle.requirement.proofs.table_of.Statement.{statement}
@@ -102,7 +102,7 @@ returns c =
     let a = l .before .before .before .args in
     let d = done _ _ _ (l .before .loop .inv) (l .loop-test .left) in
     let z = c .less-shortfall in
-    rw (toZ-ofZ {z = z .result} (sfits-of (z .ok)), z .ensures, d .1, d .0, start-is (a .rev) (a .er) (boundOf (a .t3)) 9)
+    rw (toZ-ofZ {z = z .result} (sfits-of (z .ok)), z .ensures, d .1, d .0, start-is (a .rev) (a .er) (ofPeriod (a .t3)) 9)
 
 pub table-of-spec : {M : Type 1} → statement M
 table-of-spec =

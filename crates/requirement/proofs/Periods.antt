@@ -1,0 +1,37 @@
+-- A list that has f at each of the periods 1 to n: its entries, and how an array is filled with it. Assumes nothing.
+use mathlib.Core.Path.{_≡_, refl, sym, ap, _∙_}
+use mathlib.Core.List.{List, [], _∷_, _++_, map, map-append}
+use Prim.Native.Nat.{ℕ, zero, suc, _+_, _<_}
+use native.Mathlib.Numerals.{add-one}
+use native.Mathlib.Omega.{arith}
+use native.Mathlib.Decide.{decLt}
+use lib.ListN.{length, getD, take, set, length-append, List·getD-append}
+use lib.Seq.{take-all, take-suc-set, getD-at}
+use Rattle.requirement.specs.Requirement.{periodsTo}
+
+module _ {A : Type 0} (f : ℕ → A) where
+  pub map-next : (n : ℕ) → map f (periodsTo (suc n)) ≡ map f (periodsTo n) ++ (f (suc n) ∷ [])
+  unfolding periodsTo
+  map-next n = rw map-append
+
+  length-periods : (n : ℕ) → length (map f (periodsTo n)) ≡ n
+  unfolding periodsTo
+  length-periods zero = refl
+  length-periods (suc n) = rw (map-append, length-append, length-periods n) (add-one n)
+
+  pub period-at : (n i : ℕ) (d : A) → i < n → getD (map f (periodsTo n)) i d ≡ f (suc i)
+  period-at zero i d h = absurd (omega arith)
+  period-at (suc n) i d h = by (decLt i n) (λ l. period-at n i d l)
+    where
+      by : Dec (i < n) → (i < n → getD (map f (periodsTo n)) i d ≡ f (suc i)) → getD (map f (periodsTo (suc n))) i d ≡ f (suc i)
+      by (yes l) rec = rw (map-next n, List·getD-append (map f (periodsTo n)) (f (suc n) ∷ []) d i (omega (arith, length-periods n))) (rec l)
+      by (no l) rec =
+          let p : i ≡ n = omega arith in
+          rw (map-next n, p) (getD-at (map f (periodsTo n)) (f (suc n)) [] d n (length-periods n))
+
+  module _ (xs : List A) (i : ℕ) where
+    pub filled-next : (x : A) → i < length xs → take i xs ≡ map f (periodsTo i) → x ≡ f (suc i) → take (i + 1) (set xs i x) ≡ map f (periodsTo (i + 1))
+    filled-next x h filled is = rw (add-one i, take-suc-set xs i x h, filled, is, map-next i)
+
+    pub filled-all : (n : ℕ) → length xs ≡ n → i ≡ n → take i xs ≡ map f (periodsTo i) → xs ≡ map f (periodsTo n)
+    filled-all n long end filled = sym (take-all i xs (omega arith)) ∙ filled ∙ ap (λ (k : ℕ). map f (periodsTo k)) end
