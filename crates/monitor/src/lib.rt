@@ -109,13 +109,16 @@ pub fn monitor(q: Quantities, bounds: [u32; 8], reported: [u32; 8]) -> Monitored
     ensures { λ r. ⌜ (answerOf r ≡ monitoring q bounds reported) × (r .rows ≡ orBlank zeroRows (monitoring q bounds reported)) ⌝ }
 {
     let t = DirectionTerms::of(q);
-    if terms::above_1000_mw(q) | (t.quantity == 0) {
+    let quantity_out = terms::above_1000_mw(q) | (t.quantity == 0);
+    let bound_out = some_above(500 * t.quantity, bounds);
+    let reported_out = some_above(10_000_000, reported);
+    if quantity_out {
         return refuse(MonitorAnswer::Quantity);
     }
-    if some_above(500 * t.quantity, bounds) {
+    if bound_out {
         return refuse(MonitorAnswer::Bound);
     }
-    if some_above(10_000_000, reported) {
+    if reported_out {
         return refuse(MonitorAnswer::Reported);
     }
     Monitored {

@@ -116,10 +116,12 @@ fn limits_broken(t: Terms) -> bool
 pub fn check(t: Terms) -> TermsAnswer
     ensures { λ r. ⌜ answerOf r ≡ termsCheck t ⌝ }
 {
-    if above_1000_mw(t.low) | above_1000_mw(t.high) {
+    let quantity = above_1000_mw(t.low) | above_1000_mw(t.high);
+    let power = limits_broken(t);
+    if quantity {
         return TermsAnswer::Quantity;
     }
-    if limits_broken(t) {
+    if power {
         return TermsAnswer::Power;
     }
     TermsAnswer::Good

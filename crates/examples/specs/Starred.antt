@@ -1,0 +1,93 @@
+-- The starred examples of paper 01, "Checked examples", as one list: what the paper prints, and what the definitions give.
+-- `starred-hold` computes the whole list. Assumes nothing.
+use mathlib.Core.Path.{_≡_, refl}
+use mathlib.Core.Bool.{Bool, cond}
+use mathlib.Core.List.{List, [], _∷_, _++_, map}
+use Prim.Native.Nat.{ℕ}
+use lib.IntN.{ℤ, pos, negℤ}
+use lib.ListN.{drop}
+use Rattle.common.specs.Answer.{orBlank}
+use Rattle.common.specs.Lists.{some}
+use Rattle.terms.specs.declared.Quantities.{Quantities}
+use Rattle.terms.specs.Terms.{REV, ER}
+use Rattle.requirement.specs.declared.Row.{Row as Requirement}
+use Rattle.requirement.specs.Requirement.{left, sched, back, start, end, rowOf, periodsTo, tableOf}
+use Rattle.monitor.specs.declared.Row.{Row}
+use Rattle.monitor.specs.Monitor.{rowsOf, monitoring}
+
+-- lines of numbers
+record Example : Type 0 where
+  printed : List (List ℤ)
+  given : List (List ℤ)
+
+-- ---- quantities, in MW
+
+containment : ℕ → Quantities
+containment mw = record { dc = mw; dm = 0; dr = 0 }
+
+regulation : ℕ → Quantities
+regulation mw = record { dc = 0; dm = 0; dr = mw }
+
+volumes : Quantities → List ℤ
+volumes q = pos (REV q) ∷ pos (ER q) ∷ []
+
+-- ---- a line of the report
+
+bit : Bool → ℤ
+bit b = cond b (pos 1) (pos 0)
+
+line : Row → List ℤ
+line r =
+    pos (r .period) ∷ pos (r .bound) ∷ r .start ∷ r .end ∷ pos (r .sched) ∷ pos (r .back) ∷ pos (r .left)
+    ∷ bit (r .flag) ∷ bit (r .verdict) ∷ []
+
+nat : List ℕ → List ℤ
+nat = map pos
+
+highTable : List Requirement
+highTable =
+    tableOf (REV (containment 40)) (ER (containment 40))
+    (0 ∷ 1000 ∷ 8000 ∷ 2000 ∷ 0 ∷ 0 ∷ 0 ∷ 0 ∷ []) .rows
+
+-- ---- the list
+
+starred : List Example
+starred =
+    -- 100 MW DR: REV 100,000, ER 20,000. 40 MW DC: 10,000 and 2,000.
+    record {
+      printed = nat (100000 ∷ 20000 ∷ []) ∷ nat (10000 ∷ 2000 ∷ []) ∷ [];
+      given = volumes (regulation 100) ∷ volumes (containment 40) ∷ [];
+    }
+    -- the low table
+    ∷ record {
+      printed =
+          nat (1 ∷ 15000 ∷ 100000 ∷ 85000 ∷ 15000 ∷ 0 ∷ 0 ∷ 0 ∷ 1 ∷ [])
+          ∷ nat (2 ∷ 12000 ∷ 85000 ∷ 73000 ∷ 12000 ∷ 0 ∷ 0 ∷ 0 ∷ 1 ∷ [])
+          ∷ nat (3 ∷ 20000 ∷ 73000 ∷ 53000 ∷ 20000 ∷ 0 ∷ 0 ∷ 0 ∷ 0 ∷ [])
+          ∷ nat (4 ∷ 40000 ∷ 53000 ∷ 13000 ∷ 20000 ∷ 0 ∷ 0 ∷ 0 ∷ 1 ∷ [])
+          ∷ (nat (5 ∷ 30000 ∷ 13000 ∷ []) ++ negℤ (pos 2000) ∷ nat (20000 ∷ 15000 ∷ 20000 ∷ 1 ∷ 1 ∷ []))
+          ∷ (nat (6 ∷ 4000 ∷ []) ++ negℤ (pos 2000) ∷ nat (6000 ∷ 20000 ∷ 12000 ∷ 30000 ∷ 1 ∷ 1 ∷ []))
+          ∷ nat (7 ∷ 5000 ∷ 6000 ∷ 21000 ∷ 19000 ∷ 20000 ∷ 14000 ∷ 0 ∷ 1 ∷ [])
+          ∷ nat (8 ∷ 1000 ∷ 21000 ∷ 40000 ∷ 1000 ∷ 20000 ∷ 0 ∷ 0 ∷ 1 ∷ [])
+          ∷ [];
+      given =
+          map line (orBlank [] (monitoring (regulation 100)
+          (15000 ∷ 12000 ∷ 20000 ∷ 40000 ∷ 30000 ∷ 4000 ∷ 5000 ∷ 1000 ∷ [])
+          (100000 ∷ 85000 ∷ 72999 ∷ 53000 ∷ 20000 ∷ 0 ∷ 6000 ∷ 21000 ∷ [])));
+    }
+    -- high, 40 MW DC, bounds 0, 1, 8, 2, 0, 0, 0, 0 MWh: starts 10, 10, 9, 1, −1, −1, 0, 2; last end 4
+    ∷ record {
+      printed =
+          (nat (10000 ∷ 10000 ∷ 9000 ∷ 1000 ∷ []) ++ negℤ (pos 1000) ∷ negℤ (pos 1000) ∷ nat (0 ∷ 2000 ∷ []))
+          ∷ nat (4000 ∷ [])
+          ∷ [];
+      given =
+          map (λ (r : Requirement). r .start) highTable
+          ∷ map (λ (r : Requirement). r .end) (drop 7 highTable)
+          ∷ [];
+    }
+    ∷ []
+
+starred-hold : map (λ (x : Example). x .given) starred ≡ map (λ (x : Example). x .printed) starred
+unfolding starred volumes containment regulation line bit nat highTable left sched back start end rowOf periodsTo tableOf rowsOf monitoring some
+starred-hold = refl
