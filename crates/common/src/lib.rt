@@ -1,4 +1,5 @@
-// What every crate uses: the smaller of two numbers; in specs/ a call's answer, and sums and tests over lists.
+// What every crate uses: the smaller of two numbers; in specs/ a call's answer, the periods of a block, sums and tests over
+// lists.
 ghost use mathlib.Core.Path.{_≡_};
 ghost use Prim.Native.Nat.{min};
 

@@ -8,10 +8,11 @@ use lib.IntN.{ℤ, pos, negℤ}
 use lib.ListN.{drop}
 use Rattle.common.specs.Answer.{orBlank}
 use Rattle.common.specs.Lists.{some}
+use Rattle.common.specs.Periods.{periodsTo}
 use Rattle.terms.specs.declared.Quantities.{Quantities}
 use Rattle.terms.specs.Terms.{REV, ER}
 use Rattle.requirement.specs.declared.Row.{Row as Requirement}
-use Rattle.requirement.specs.Requirement.{left, sched, back, start, end, rowOf, periodsTo, tableOf}
+use Rattle.requirement.specs.Requirement.{left, sched, back, start, end, rowOf, tableOf}
 use Rattle.monitor.specs.declared.Row.{Row}
 use Rattle.monitor.specs.Monitor.{rowsOf, monitoring}
 

@@ -5,10 +5,11 @@ use Prim.Native.Nat.{ℕ, suc, _+_, _-_, _≤_, _<_}
 use native.Mathlib.Numerals.{add-one}
 use native.Mathlib.Omega.{arith}
 use lib.ListN.{getD, set, take, length, length-set}
+use Rattle.common.specs.Periods.{periodsTo, ofPeriod}
+use Rattle.common.proofs.Periods.{period-at, filled-next, filled-all}
 use Rattle.requirement.specs.declared.Row.{Row as Requirement}
 use Rattle.requirement.specs.declared.Table.{Table}
-use Rattle.requirement.specs.Requirement.{rowOf, periodsTo, ofPeriod, tableOf}
-use Rattle.requirement.proofs.Periods.{period-at, filled-next, filled-all}
+use Rattle.requirement.specs.Requirement.{rowOf, tableOf}
 use Rattle.monitor.specs.declared.Row.{Row}
 use Rattle.monitor.specs.Monitor.{judged, judgedRow, rowsOf}
 

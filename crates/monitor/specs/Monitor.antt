@@ -8,10 +8,11 @@ use lib.ListN.{replicate}
 use lib.Signed.{leZ}
 use Rattle.common.specs.Answer.{Answer, refused, given, cause, checked}
 use Rattle.common.specs.Lists.{some}
+use Rattle.common.specs.Periods.{periodsTo, ofPeriod}
 use Rattle.terms.specs.declared.Quantities.{Quantities}
 use Rattle.terms.specs.Terms.{Q, REV, ER, above1000}
 use Rattle.requirement.specs.declared.Row.{Row as Requirement}
-use Rattle.requirement.specs.Requirement.{rowOf, periodsTo, ofPeriod}
+use Rattle.requirement.specs.Requirement.{rowOf}
 use Rattle.monitor.specs.declared.Row.{Row}
 use Rattle.monitor.specs.declared.Monitored.{Monitored}
 use Rattle.monitor.specs.declared.MonitorAnswer.{MonitorAnswer}

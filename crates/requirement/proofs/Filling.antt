@@ -9,9 +9,10 @@ use borrow.Author.Count.{below-more}
 use lib.IntN.{pos, _-ℤ_}
 use lib.ListN.{getD, set, take, length, length-set, replicate, getD-replicate}
 use lib.Seq.{getD-set-same, getD-set-other}
-use Rattle.requirement.specs.Requirement.{schedOf, flagOf, left, sched, back, rowOf, periodsTo, ofPeriod}
+use Rattle.common.specs.Periods.{periodsTo, ofPeriod}
+use Rattle.common.proofs.Periods.{filled-next, filled-all}
+use Rattle.requirement.specs.Requirement.{schedOf, flagOf, left, sched, back, rowOf}
 use Rattle.requirement.specs.declared.Row.{Row}
-use Rattle.requirement.proofs.Periods.{filled-next, filled-all}
 use Rattle.requirement.proofs.Shortfall.{shortfall, left-next, back-none, back-later, back-le, sched-le, start-is, end-is}
 
 -- the row that `row_of` makes

@@ -8,10 +8,11 @@ use borrow.Author.Tests.{le-leb, lt-leb}
 use lib.IntN.{pos, _-ℤ_}
 use lib.Signed.{_≤ℤ_}
 use Rattle.common.specs.Lists.{sum}
+use Rattle.common.specs.Periods.{periodsTo}
 use Rattle.common.proofs.Lists.{sum-append}
+use Rattle.common.proofs.Periods.{map-next}
 use Rattle.signed.proofs.Whole.{whole, less}
-use Rattle.requirement.specs.Requirement.{left, sched, back, start, periodsTo}
-use Rattle.requirement.proofs.Periods.{map-next}
+use Rattle.requirement.specs.Requirement.{left, sched, back, start}
 use Rattle.requirement.proofs.Shortfall.{shortfall, left-next, sched-le, back-le, start-is}
 
 module _ (REV ER : ℕ) (e : ℕ → ℕ) where

@@ -1,4 +1,3 @@
 pub mod Shortfall
 pub mod Laws
-pub mod Periods
 pub mod Filling

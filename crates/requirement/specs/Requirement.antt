@@ -1,12 +1,12 @@
 -- Paper 01, "Requirement, each direction alike": REV and ER are a direction's volumes, and e i is the bound of period i = 1, 2, ..
 -- There is no period 0: nothing reads what stands for it. Assumes nothing.
 use mathlib.Core.Bool.{Bool, cond, _||_}
-use mathlib.Core.List.{List, [], _∷_, _++_, map}
+use mathlib.Core.List.{List, map}
 use Prim.Native.Nat.{ℕ, zero, suc, _+_, _-_, min}
 use lib.Dec.{leb}
 use lib.IntN.{ℤ, pos, _+ℤ_, _-ℤ_}
-use lib.ListN.{getD}
 use lib.Signed.{leZ}
+use Rattle.common.specs.Periods.{periodsTo, ofPeriod}
 use Rattle.requirement.specs.declared.Row.{Row}
 use Rattle.requirement.specs.declared.Table.{Table}
 
@@ -63,15 +63,6 @@ module _ (REV ER : ℕ) (e : ℕ → ℕ) where
       }
 
 -- ---- a block
-
--- the periods 1 to n
-unfoldable pub periodsTo : ℕ → List ℕ
-periodsTo zero = []
-periodsTo (suc n) = periodsTo n ++ (suc n ∷ [])
-
--- the entry of period i in a list that begins with period 1
-abbrev pub ofPeriod : List ℕ → ℕ → ℕ
-ofPeriod entries i = getD entries (i - 1) 0
 
 -- the rows of the eight periods; start(9) is the next start after period 8
 unfoldable pub tableOf : ℕ → ℕ → List ℕ → Table

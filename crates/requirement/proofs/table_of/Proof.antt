@@ -7,7 +7,8 @@ use lib.ListN.{getD}
 use mir.Syntax.{w32}
 use mir.Val.{Fits}
 use mir.Facts.{toZ-ofZ}
-use Rattle.requirement.specs.Requirement.{ofPeriod, tableOf}
+use Rattle.common.specs.Periods.{ofPeriod}
+use Rattle.requirement.specs.Requirement.{tableOf}
 use Rattle.requirement.proofs.Shortfall.{start-is}
 use Rattle.requirement.proofs.Filling.{Filled, begin, done, step, back-fits, sched-fits}
 use Rattle.requirement.proofs.table_of.Statement.{statement}

@@ -7,7 +7,7 @@ use native.Mathlib.Omega.{arith}
 use native.Mathlib.Decide.{decLt}
 use lib.ListN.{length, getD, take, set, length-append, List·getD-append}
 use lib.Seq.{take-all, take-suc-set, getD-at}
-use Rattle.requirement.specs.Requirement.{periodsTo}
+use Rattle.common.specs.Periods.{periodsTo}
 
 module _ {A : Type 0} (f : ℕ → A) where
   pub map-next : (n : ℕ) → map f (periodsTo (suc n)) ≡ map f (periodsTo n) ++ (f (suc n) ∷ [])
