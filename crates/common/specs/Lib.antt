@@ -1,3 +1,4 @@
 pub mod Answer
+pub mod Fraction
 pub mod Lists
 pub mod Periods

@@ -1,6 +1,7 @@
 -- Whole numbers by their sign, as the code splits and makes them. Assumes nothing.
-use mathlib.Core.Bool.{Bool, _&&_}
+use mathlib.Core.Bool.{Bool, false, _&&_}
 use Prim.Native.Nat.{ℕ, suc, _-_, _^_, min}
+use lib.Dec.{eqb}
 use lib.IntN.{ℤ, pos, negsuc}
 use lib.Signed.{leZ}
 
@@ -18,6 +19,12 @@ below (negsuc n) = suc n
 abbrev pub nearest : ℤ → ℤ
 nearest (pos n) = pos (min n (2 ^ 63 - 1))
 nearest (negsuc n) = negsuc (min n (2 ^ 63 - 1))
+
+abbrev pub eqZ : ℤ → ℤ → Bool
+eqZ (pos m) (pos n) = eqb m n
+eqZ (pos m) (negsuc n) = false
+eqZ (negsuc m) (pos n) = false
+eqZ (negsuc m) (negsuc n) = eqb m n
 
 -- low ≤ z ≤ high
 abbrev pub within : ℤ → ℤ → ℤ → Bool
