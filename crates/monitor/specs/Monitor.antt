@@ -6,7 +6,7 @@ use lib.Dec.{ltb, eqb}
 use lib.IntN.{pos}
 use lib.ListN.{replicate}
 use lib.Signed.{leZ}
-use Rattle.common.specs.Answer.{Answer, refused, given, cause, checked}
+use Rattle.common.specs.Answer.{Answer, refused, given, Cause, cause, checked}
 use Rattle.common.specs.Lists.{some}
 use Rattle.common.specs.Periods.{periodsTo, ofPeriod}
 use Rattle.terms.specs.declared.Quantities.{Quantities}
@@ -63,14 +63,15 @@ zeroRows = replicate 8 zeroRow
 -- ---- the answer
 
 -- 1, 7, 11, each over all eight periods
-unfoldable pub monitoring : Quantities → List ℕ → List ℕ → Answer (List Row)
-monitoring q bounds reported =
-    checked
-    (cause 1 (above1000 q || eqb (Q q) 0)
+abbrev pub monitorCauses : Quantities → List ℕ → List ℕ → List Cause
+monitorCauses q bounds reported =
+    cause 1 (above1000 q || eqb (Q q) 0)
     ∷ cause 7 (some (ltb (500 * Q q)) bounds)
     ∷ cause 11 (some (ltb 10000000) reported)
-    ∷ [])
-    (rowsOf (REV q) (ER q) bounds reported)
+    ∷ []
+
+unfoldable pub monitoring : Quantities → List ℕ → List ℕ → Answer (List Row)
+monitoring q bounds reported = checked (monitorCauses q bounds reported) (rowsOf (REV q) (ER q) bounds reported)
 
 -- the number, or the rows, of each case of the code's answer
 abbrev pub numbered : MonitorAnswer → List Row → Answer (List Row)
