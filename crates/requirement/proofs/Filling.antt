@@ -1,4 +1,4 @@
--- The loop of `table_of`: after i turns the first i rows are there, and `backs` has what comes back up to period i + 4.
+-- The loop of `fill`: after i turns the first i rows are there, and `backs` has what comes back up to period i + 4.
 -- Assumes nothing.
 use mathlib.Core.Path.{_≡_, refl, sym, ap, _∙_}
 use mathlib.Core.List.{List, map}

@@ -2,7 +2,10 @@
 ghost use mathlib.Core.Path.{_≡_};
 ghost use Prim.Native.Nat.{_+_, _-_, _≤_, _^_};
 ghost use lib.IntN.{pos, _-ℤ_};
+ghost use Rattle.terms.specs.Terms.{REV, ER};
 ghost use Rattle.requirement.specs.Requirement.{schedOf, flagOf, tableOf};
+use terms::DirectionTerms;
+use terms::Quantities;
 
 // A period's requirement at its start and end, in kWh; flag: unavailability is allowed.
 pub struct Row {
@@ -21,32 +24,33 @@ pub struct Table {
 }
 
 // REV less a shortfall.
-fn less_shortfall(rev: u32, shortfall: u64) -> i64
-    requires { ⌜ shortfall ≤ 2 ^ 36 ⌝ }
+fn less_shortfall(rev: u64, shortfall: u64) -> i64
+    requires { ⌜ (rev ≤ 2 ^ 44) × (shortfall ≤ 2 ^ 36) ⌝ }
     ensures { λ r. ⌜ r ≡ pos rev -ℤ pos shortfall ⌝ }
 {
-    signed::difference(rev as u64, shortfall)
+    signed::difference(rev, shortfall)
 }
 
 // A period's row, where its start is REV less the shortfall.
-fn row_of(rev: u32, er: u32, bound: u32, left: u64, back: u64, shortfall: u64) -> Row
-    requires { ⌜ (left ≤ 2 ^ 35) × (shortfall ≤ 2 ^ 35) × (back ≤ shortfall) ⌝ }
+fn row_of(rev: u64, er: u64, bound: u32, left: u64, back: u64, shortfall: u64) -> Row
+    requires { ⌜ (rev ≤ 2 ^ 44) × (left ≤ 2 ^ 35) × (shortfall ≤ 2 ^ 35) × (back ≤ shortfall) ⌝ }
     ensures { λ r. ⌜ r ≡ record { left = left; sched = schedOf er bound left; back = back; start = pos rev -ℤ pos shortfall; end = pos rev -ℤ pos (shortfall + bound - back); flag = flagOf (pos rev -ℤ pos shortfall) (pos rev -ℤ pos (shortfall + bound - back)) } ⌝ }
 {
     let due = bound as u64 + left;
     let next = shortfall + bound as u64 - back;
     Row {
         left,
-        sched: common::smaller(due, er as u64),
+        sched: common::smaller(due, er),
         back,
         start: less_shortfall(rev, shortfall),
         end: less_shortfall(rev, next),
-        flag: (rev as u64 <= shortfall) | (rev as u64 <= next),
+        flag: (rev <= shortfall) | (rev <= next),
     }
 }
 
-// The table of a direction. `backs` holds what comes back in each period, four periods ahead.
-pub fn table_of(rev: u32, er: u32, bounds: [u32; 8]) -> Table
+// `backs` holds what comes back in each period, four periods ahead.
+fn fill(rev: u64, er: u64, bounds: [u32; 8]) -> Table
+    requires { ⌜ rev ≤ 2 ^ 44 ⌝ }
     ensures { λ r. ⌜ r ≡ tableOf rev er bounds ⌝ }
 {
     let mut rows = [row_of(0, 0, 0, 0, 0, 0); 8];
@@ -68,4 +72,19 @@ pub fn table_of(rev: u32, er: u32, bounds: [u32; 8]) -> Table
         rows,
         start9: less_shortfall(rev, shortfall),
     }
+}
+
+// The table of given volumes.
+pub fn table_of(rev: u32, er: u32, bounds: [u32; 8]) -> Table
+    ensures { λ r. ⌜ r ≡ tableOf rev er bounds ⌝ }
+{
+    fill(rev as u64, er as u64, bounds)
+}
+
+// The table of a direction, whatever its quantities.
+pub fn direction_table(q: Quantities, bounds: [u32; 8]) -> Table
+    ensures { λ r. ⌜ r ≡ tableOf (REV q) (ER q) bounds ⌝ }
+{
+    let t = DirectionTerms::of(q);
+    fill(t.rev, t.er, bounds)
 }

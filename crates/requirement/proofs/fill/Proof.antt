@@ -1,4 +1,4 @@
--- `requirement::table_of` meets its contract. The loop's invariant is `Filled`, and a turn keeps it by `step`. Assumes nothing.
+-- `requirement::fill` meets its contract. The loop's invariant is `Filled`, and a turn keeps it by `step`. Assumes nothing.
 use mathlib.Core.Path.{refl}
 use Prim.Native.Nat.{_-_}
 use native.Mathlib.Omega.{arith}
@@ -11,8 +11,8 @@ use Rattle.common.specs.Periods.{ofPeriod}
 use Rattle.requirement.specs.Requirement.{tableOf}
 use Rattle.requirement.proofs.Shortfall.{start-is}
 use Rattle.requirement.proofs.Filling.{Filled, begin, done, step, back-fits, sched-fits}
-use Rattle.requirement.proofs.table_of.Statement.{statement}
-use Rattle.requirement.proofs.table_of.Tie as tie
+use Rattle.requirement.proofs.fill.Statement.{statement}
+use Rattle.requirement.proofs.fill.Tie as tie
 
 abbrev Inv-loop : tie.InvT-loop
 Inv-loop rev er bounds rows₀ backs₀ left₀ shortfall₀ i₀ rows backs left shortfall i = Filled rev er bounds rows backs left shortfall i
@@ -43,7 +43,7 @@ array-read-back : tie.Need-array-read-back Inv-loop μ-loop
 array-read-back c = search needs
 
 row-of-requires-2 : tie.Need-row-of-requires-2 Inv-loop μ-loop
-row-of-requires-2 c κs = (omega arith, omega arith, back-fits _ _ _ (c .before .loop .inv) (c .loop-test .taken))
+row-of-requires-2 c κs = (c .before .before .before .pre, omega arith, omega arith, back-fits _ _ _ (c .before .loop .inv) (c .loop-test .taken))
 
 mul-rows : tie.Need-mul-rows Inv-loop μ-loop
 mul-rows c = search needs
@@ -105,8 +105,8 @@ returns c =
     let z = c .less-shortfall in
     rw (toZ-ofZ {z = z .result} (sfits-of (z .ok)), z .ensures, d .1, d .0, start-is (a .rev) (a .er) (ofPeriod (a .t3)) 9)
 
-pub table-of-spec : {M : Type 1} → statement M
-table-of-spec =
+pub fill-spec : {M : Type 1} → statement M
+fill-spec =
     tie.close
     (tie.spec
     Inv-loop
