@@ -28,22 +28,52 @@ pub struct Curves {
 pub const REGULATION: Curve = Curve {
     count: 2,
     points: [
-        Point { deviation: 15, share: 0 },
-        Point { deviation: 200, share: 1000 },
-        Point { deviation: 0, share: 0 },
-        Point { deviation: 0, share: 0 },
-        Point { deviation: 0, share: 0 },
+        Point {
+            deviation: 15,
+            share: 0,
+        },
+        Point {
+            deviation: 200,
+            share: 1000,
+        },
+        Point {
+            deviation: 0,
+            share: 0,
+        },
+        Point {
+            deviation: 0,
+            share: 0,
+        },
+        Point {
+            deviation: 0,
+            share: 0,
+        },
     ],
 };
 
 pub const CONTAINMENT: Curve = Curve {
     count: 3,
     points: [
-        Point { deviation: 15, share: 0 },
-        Point { deviation: 200, share: 50 },
-        Point { deviation: 500, share: 1000 },
-        Point { deviation: 0, share: 0 },
-        Point { deviation: 0, share: 0 },
+        Point {
+            deviation: 15,
+            share: 0,
+        },
+        Point {
+            deviation: 200,
+            share: 50,
+        },
+        Point {
+            deviation: 500,
+            share: 1000,
+        },
+        Point {
+            deviation: 0,
+            share: 0,
+        },
+        Point {
+            deviation: 0,
+            share: 0,
+        },
     ],
 };
 

@@ -8,11 +8,11 @@ ghost use Rattle.terms.specs.Terms.{Q};
 ghost use Rattle.energy.specs.Curve.{roundedUp, curvesRule};
 ghost use Rattle.energy.specs.Numbers.{curvesIn};
 ghost use Rattle.energy.specs.Period.{responses, isReading, goodReadings, lowDeviation, highDeviation, lowBound, highBound, answerOf, periodEnergy};
-use terms::Quantities;
 use crate::curve::Curves;
 use crate::curve::curves_hold;
 use crate::curve::numbers;
 use crate::curve::respond;
+use terms::Quantities;
 
 pub enum PeriodEnergy {
     // Both directions, in kWh.
@@ -111,7 +111,12 @@ fn sum_readings(
 }
 
 // Refusal 6 or both bounds, where quantities and curves are good.
-fn from_readings(low: Quantities, high: Quantities, curves: Curves, readings: &[u16]) -> PeriodEnergy
+fn from_readings(
+    low: Quantities,
+    high: Quantities,
+    curves: Curves,
+    readings: &[u16],
+) -> PeriodEnergy
     requires { ⌜ (Q low ≤ 1000) × (Q high ≤ 1000) × (curvesRule curves ≡ true) ⌝ }
     ensures { λ r. ⌜ answerOf r ≡ checked (cause 6 (not (goodReadings (now (readings .entry)))) ∷ []) (record { low = lowBound low curves (now (readings .entry)); high = highBound high curves (now (readings .entry)) }) ⌝ }
 {
@@ -132,7 +137,12 @@ fn from_readings(low: Quantities, high: Quantities, curves: Curves, readings: &[
 }
 
 // Both directions' bounds of a period.
-pub fn period_energy(low: Quantities, high: Quantities, curves: Curves, readings: &[u16]) -> PeriodEnergy
+pub fn period_energy(
+    low: Quantities,
+    high: Quantities,
+    curves: Curves,
+    readings: &[u16],
+) -> PeriodEnergy
     ensures { λ r. ⌜ answerOf r ≡ periodEnergy low high curves (now (readings .entry)) ⌝ }
 {
     if terms::above_1000_mw(low) | terms::above_1000_mw(high) {
