@@ -1,7 +1,7 @@
 -- A curve's points as numbers: what is read there is the curve's. Assumes nothing.
 use mathlib.Core.Path.{_≡_, refl, sym, ap, _∙_}
 use mathlib.Core.Bool.{true}
-use mathlib.Core.List.{List, [], _∷_, map}
+use mathlib.Core.List.{List, [], _∷_}
 use Prim.Native.Nat.{ℕ, zero, suc, _+_, _*_, _≤_, _<_}
 use native.Mathlib.Omega.{arith}
 use borrow.Author.Tests.{le-leb}
@@ -16,7 +16,6 @@ use Rattle.energy.specs.declared.curve.Point.{Point}
 use Rattle.energy.specs.declared.curve.Curve.{Curve}
 use Rattle.energy.specs.declared.curve.Curves.{Curves}
 use Rattle.energy.proofs.Points.{counted, ruled}
-use Rattle.energy.proofs.Responses.{rules}
 use Rattle.energy.proofs.Sums.{fromReadings}
 
 -- ---- numbers, two by two
@@ -57,52 +56,54 @@ five (a ∷ b ∷ c ∷ d ∷ []) h = absurd (omega arith)
 five (a ∷ b ∷ c ∷ d ∷ e ∷ []) h = refl
 five (a ∷ b ∷ c ∷ d ∷ e ∷ f ∷ ps) h = absurd (omega arith)
 
--- ---- the numbers of a curve up to its count
+-- ---- a curve that keeps its rule, lent as the numbers of its points
 
-module _ (c : Curve) (ns : List ℕ) (rule : curveRule c ≡ true) (ten : length ns ≡ 10) (same : pointsIn ns ≡ c .points) where
-  abbrev lent : Curve
-  lent = curveIn (take (2 * c .count) ns)
+pub record Lent (c : Curve) (ns : List ℕ) : Type 0 where
+  pub rule : curveRule c ≡ true
+  pub ten : length ns ≡ 10
+  pub same : pointsIn ns ≡ c .points
 
+-- as many numbers as its points have
+abbrev lent : Curve → List ℕ → Curve
+lent c ns = curveIn (take (2 * c .count) ns)
+
+module _ {c : Curve} {ns : List ℕ} (l : Lent c ns) where
   points-same : pointsIn (take (2 * c .count) ns) ≡ pointsOf c
-  points-same = take-in (c .count) ns ∙ ap (take (c .count)) same
+  points-same = take-in (c .count) ns ∙ ap (take (c .count)) (l .same)
 
-  lent-points : pointsOf lent ≡ pointsOf c
+  lent-points : pointsOf (lent c ns) ≡ pointsOf c
   lent-points = take-length (pointsIn (take (2 * c .count) ns)) ∙ points-same
 
-  response-same : (mw d : ℕ) → response mw lent d ≡ response mw c d
+  response-same : (mw d : ℕ) → response mw (lent c ns) d ≡ response mw c d
   unfolding response
   response-same mw d = rw lent-points
 
   pub end-within : 2 * c .count ≤ length ns
-  end-within = omega (arith, counted c rule)
+  end-within = omega (arith, counted c (l .rule))
 
   pub end-long : 2 * c .count ≡ length (take (2 * c .count) ns)
   end-long = simp length-take (omega (arith, end-within))
 
-  rule-same : curveRule lent ≡ true
+  rule-same : curveRule (lent c ns) ≡ true
   unfolding curveRule
   rule-same =
-      let five-points : length (c .points) ≡ length (pointsIn ns) = ap length (sym same) in
-      let n : length (pointsIn (take (2 * c .count) ns)) ≡ c .count = ap length points-same ∙ (simp length-take (omega (arith, counted c rule, in-pairs ns))) in
-      let b = counted c rule in
-      rw (lent-points, n, le-leb 2 (c .count) (b .0), le-leb (c .count) 5 (b .1)) (ruled c rule)
+      let b = counted c (l .rule) in
+      let five-points : length (c .points) ≡ length (pointsIn ns) = ap length (sym (l .same)) in
+      let n : length (pointsIn (take (2 * c .count) ns)) ≡ c .count = ap length points-same ∙ (simp length-take (omega (arith, in-pairs ns))) in
+      rw (lent-points, n, le-leb 2 (c .count) (b .0), le-leb (c .count) 5 (b .1)) (ruled c (l .rule))
 
 -- ---- three curves
 
-module _ (cs : Curves) (dc dm dr : List ℕ) (rule : curvesRule cs ≡ true) (dc10 : length dc ≡ 10) (dm10 : length dm ≡ 10) (dr10 : length dr ≡ 10) (dc-same : pointsIn dc ≡ cs .dc .points) (dm-same : pointsIn dm ≡ cs .dm .points) (dr-same : pointsIn dr ≡ cs .dr .points) where
+module _ (cs : Curves) {dc dm dr : List ℕ} (lent-dc : Lent (cs .dc) dc) (lent-dm : Lent (cs .dm) dm) (lent-dr : Lent (cs .dr) dr) where
   abbrev all-lent : Curves
   all-lent = curvesIn (take (2 * cs .dc .count) dc) (take (2 * cs .dm .count) dm) (take (2 * cs .dr .count) dr)
 
   pub rules-same : curvesRule all-lent ≡ true
   unfolding curvesRule
-  rules-same =
-      let r = rules cs rule in
-      rw (rule-same (cs .dc) dc (r .0) dc10 dc-same, rule-same (cs .dm) dm (r .1) dm10 dm-same, rule-same (cs .dr) dr (r .2) dr10 dr-same)
+  rules-same = rw (rule-same lent-dc, rule-same lent-dm, rule-same lent-dr)
 
   responses-same : (q : Quantities) (d : ℕ) → responses q all-lent d ≡ responses q cs d
-  responses-same q d =
-      let r = rules cs rule in
-      rw (response-same (cs .dc) dc (r .0) dc10 dc-same (q .dc) d, response-same (cs .dm) dm (r .1) dm10 dm-same (q .dm) d, response-same (cs .dr) dr (r .2) dr10 dr-same (q .dr) d)
+  responses-same q d = rw (response-same lent-dc (q .dc) d, response-same lent-dm (q .dm) d, response-same lent-dr (q .dr) d)
 
   bound-same : (deviation : ℕ → ℕ) (q : Quantities) (rs : List ℕ) → bound deviation q all-lent rs ≡ bound deviation q cs rs
   unfolding bound

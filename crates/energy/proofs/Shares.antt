@@ -2,7 +2,7 @@
 use mathlib.Core.Path.{_≡_, refl, ap}
 use mathlib.Core.Bool.{Bool, true, false, cond, false≢true}
 use mathlib.Core.List.{List, [], _∷_}
-use Prim.Native.Nat.{ℕ, _+_, _-_, _*_, _^_, _≤_, _<_}
+use Prim.Native.Nat.{ℕ, _+_, _-_, _*_, _≤_, _<_}
 use native.Mathlib.Nat.{add-mul, mul-assoc, mul-left-comm, mul-le-mul, mul-le-mul-left, mul-le-mul-right, mul-zero, zero-mul}
 use native.Mathlib.Omega.{arith}
 use borrow.Author.Tests.{ltb-true, ltb-false, eqb-true}
@@ -20,29 +20,14 @@ line-le s t w x st t1 xw =
     let up : s + (t - s) ≡ t = omega arith in
     omega (arith, mul-le-mul-left (t - s) xw, add-mul s (t - s) w, ap (λ (n : ℕ). n * w) up, mul-le-mul-right w t1)
 
--- ---- what `response_between` computes fits
+-- ---- what `response_between` computes is far below 2^32
 
 module _ (mw s t a b d : ℕ) (h : (mw ≤ 1000) × (b ≤ 3000) × (s ≤ t) × (t ≤ 1000) × (a ≤ d) × (d < b)) where
-  numerator-le : s * (b - a) + (t - s) * (d - a) ≤ 3000000
+  pub numerator-le : s * (b - a) + (t - s) * (d - a) ≤ 3000000
   numerator-le = omega (arith, line-le s t (b - a) (d - a) (h .2) (h .3) (omega arith))
 
-  product-le : mw * (s * (b - a) + (t - s) * (d - a)) ≤ 3000000000
+  pub product-le : mw * (s * (b - a) + (t - s) * (d - a)) ≤ 3000000000
   product-le = mul-le-mul (h .0) numerator-le
-
-  pub level-fits : s * (b - a) < 2 ^ 32
-  level-fits = omega (arith, numerator-le)
-
-  pub climb-fits : (t - s) * (d - a) < 2 ^ 32
-  climb-fits = omega (arith, numerator-le)
-
-  pub numerator-fits : s * (b - a) + (t - s) * (d - a) < 2 ^ 32
-  numerator-fits = omega (arith, numerator-le)
-
-  pub product-fits : mw * (s * (b - a) + (t - s) * (d - a)) < 2 ^ 32
-  product-fits = omega (arith, product-le)
-
-  pub dividend-fits : mw * (s * (b - a) + (t - s) * (d - a)) + (b - a - 1) < 2 ^ 32
-  dividend-fits = omega (arith, product-le)
 
 -- ---- the share as a fraction
 
