@@ -145,10 +145,12 @@ pub fn period_energy(
 ) -> PeriodEnergy
     ensures { λ r. ⌜ answerOf r ≡ periodEnergy low high curves (now (readings .entry)) ⌝ }
 {
-    if terms::above_1000_mw(low) | terms::above_1000_mw(high) {
+    let quantity = terms::above_1000_mw(low) | terms::above_1000_mw(high);
+    let curve = !curves_hold(curves);
+    if quantity {
         return PeriodEnergy::Quantity;
     }
-    if !curves_hold(curves) {
+    if curve {
         return PeriodEnergy::Curve;
     }
     from_readings(low, high, curves, readings)
