@@ -136,11 +136,11 @@ fn calm(random: &mut Random) -> Vec<u16> {
     (0..3600).map(|_| 49980 + random.below(41) as u16).collect()
 }
 
-// ---- timing: middle values over the repetitions, and the middle half of the ratios
+// ---- timing: the least time of each over the repetitions, and the middle and the middle half of the ratios
 
-const REPETITIONS: usize = 101;
+const REPETITIONS: usize = 401;
 // Different ones, so that no branch is foreseen because the same readings came before.
-const PERIODS: usize = 100;
+const PERIODS: usize = 25;
 
 // Microseconds for one period.
 fn time(f: fn([u32; 3], [u32; 3], &[u16]) -> u64, q: [u32; 3], periods: &[Vec<u16>]) -> f64 {
@@ -180,7 +180,7 @@ fn main() {
             let middle = REPETITIONS / 2;
             println!(
                 "{:15} {:9} {:11.2} {:11.2} {:6.2}  {:.2} to {:.2}",
-                name, services, ours[middle], theirs[middle], ratios[middle], ratios[middle / 2], ratios[middle + middle / 2]
+                name, services, ours[0], theirs[0], ratios[middle], ratios[middle / 2], ratios[middle + middle / 2]
             );
         }
     }
