@@ -1,22 +1,32 @@
--- The laws of the bounds that other crates cite. Assumes nothing.
+-- The laws of responses and bounds, over the definitions of specs/. Assumes nothing.
 use mathlib.Core.Path.{_≡_, refl, ap, _∙_}
 use mathlib.Core.Bool.{true}
 use mathlib.Core.List.{List, map}
-use Prim.Native.Nat.{ℕ, _*_, _≤_}
+use Prim.Native.Nat.{ℕ, _*_, _≤_, _<_}
 use native.Mathlib.Omega.{arith}
 use borrow.Author.Tests.{eqb-true}
 use lib.Dec.{eqb}
-use lib.ListN.{length, replicate}
+use lib.ListN.{length, getD, replicate}
 use Rattle.common.specs.Lists.{sum, every}
 use Rattle.common.proofs.Lists.{sum-le, sum-zeros, every-same}
 use Rattle.terms.specs.declared.Quantities.{Quantities}
 use Rattle.terms.specs.Terms.{Q}
-use Rattle.energy.specs.Curve.{curvesRule}
+use Rattle.energy.specs.Curve.{blank, pointsOf, curveRule, curvesRule, response}
 use Rattle.energy.specs.Period.{isReading, goodReadings, responses, lowDeviation, highDeviation, bound, lowBound, highBound}
+use Rattle.energy.specs.declared.curve.Curve.{Curve}
 use Rattle.energy.specs.declared.curve.Curves.{Curves}
+use Rattle.energy.proofs.Points.{ruled}
 use Rattle.energy.proofs.Responses.{responses-le, responses-zero}
 use Rattle.energy.proofs.Rounding.{up-le, up-zero}
+use Rattle.energy.proofs.Shares.{at-point}
 use Rattle.energy.proofs.Tests.{both}
+
+-- at a point of its curve a service responds with exactly the point's share
+pub response-at : (mw : ℕ) (c : Curve) → curveRule c ≡ true → (i : ℕ) → i < length (pointsOf c) →
+    let p = getD (pointsOf c) i blank in
+    response mw c (p .deviation) ≡ mw * p .share
+unfolding response
+response-at mw c rule i h = at-point mw (pointsOf c) i (ruled c rule) h
 
 pub good-count : (rs : List ℕ) → goodReadings rs ≡ true → length rs ≡ 3600
 unfolding goodReadings

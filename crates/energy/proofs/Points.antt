@@ -10,11 +10,11 @@ use borrow.Author.Tests.{le-leb, lt-leb, eq-eqb, ne-eqb, lt-ltb, le-ltb, leb-tru
 use lib.Dec.{leb, eqb}
 use lib.ListN.{length, drop, getD, length-take, drop-of-length-le}
 use lib.Seq.{drop-cons, getD-take}
-use Rattle.energy.proofs.Rounding.{up-zero, up-one}
-use Rattle.energy.proofs.Tests.{both}
 use Rattle.energy.specs.Curve.{blank, pointsOf, inRange, rises, risesFrom, pointsRule, curveRule, between, shareFrom, shareAt, responseTo, response}
 use Rattle.energy.specs.declared.curve.Point.{Point}
 use Rattle.energy.specs.declared.curve.Curve.{Curve}
+use Rattle.energy.proofs.Rounding.{up-zero, up-one}
+use Rattle.energy.proofs.Tests.{both}
 
 -- ---- what the rule says
 
@@ -116,9 +116,9 @@ module _ (c : Curve) where
       pub past : last .deviation ≤ d
       pub same : response mw c d ≡ responseTo mw (shareFrom last (rest i) d)
 
-    pub no-Q : mw ≡ 0 → response mw c d ≡ 0
+    pub no-quantity : mw ≡ 0 → response mw c d ≡ 0
     unfolding response
-    no-Q h = rw (h, zero-mul (shareAt (pointsOf c) d .numerator)) (up-zero (shareAt (pointsOf c) d .denominator))
+    no-quantity h = rw (h, zero-mul (shareAt (pointsOf c) d .numerator)) (up-zero (shareAt (pointsOf c) d .denominator))
 
     module _ (rule : curveRule c ≡ true) (long : c .count ≤ length (c .points)) (p : Point) (first : p ≡ at 0) where
       starting : rest 0 ≡ p ∷ rest 1

@@ -1,7 +1,7 @@
 -- Divisions rounded up. Assumes nothing.
 use mathlib.Core.Path.{_≡_}
 use Prim.Native.Nat.{ℕ, zero, suc, _+_, _-_, _*_, _≤_, _<_}
-use native.Mathlib.Nat.{div-eq-of-lt, div-one, div-zero, div-lt-iff-lt-mul, add-mul, add-zero}
+use native.Mathlib.Nat.{div-eq-of-lt, div-eq-of-lt-le, div-one, div-zero, div-lt-iff-lt-mul, add-mul, add-zero}
 use native.Mathlib.Omega.{arith}
 use Rattle.energy.specs.Curve.{roundedUp}
 
@@ -11,6 +11,12 @@ up-one a = rw (add-zero a) (div-one a)
 pub up-zero : (b : ℕ) → roundedUp 0 b ≡ 0
 up-zero zero = div-zero (0 + (0 - 1))
 up-zero (suc b) = div-eq-of-lt (omega arith)
+
+-- a division that leaves nothing over is not rounded
+pub up-exact : (k b : ℕ) → 0 < b → roundedUp (k * b) b ≡ k
+up-exact k b h =
+    let p : k * b + (b - 1) < (k + 1) * b = rw (add-mul k 1 b) (omega arith) in
+    div-eq-of-lt-le b (omega arith) p
 
 pub up-le : (a b k : ℕ) → 0 < b → a ≤ k * b → roundedUp a b ≤ k
 up-le a b k h le =

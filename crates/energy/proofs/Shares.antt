@@ -1,18 +1,20 @@
--- The share of a curve that keeps its rule: at most 1,000 per mille, and 0 at deviation 0. Assumes nothing.
+-- The share of a curve that keeps its rule: at most 1,000 per mille, 0 at deviation 0, and a point's own share at the point.
+-- Assumes nothing.
 use mathlib.Core.Path.{_≡_, refl, ap}
 use mathlib.Core.Bool.{Bool, true, false, cond, false≢true}
 use mathlib.Core.List.{List, [], _∷_}
-use Prim.Native.Nat.{ℕ, _+_, _-_, _*_, _≤_, _<_}
-use native.Mathlib.Nat.{add-mul, mul-assoc, mul-left-comm, mul-le-mul, mul-le-mul-left, mul-le-mul-right, mul-zero, zero-mul}
+use Prim.Native.Nat.{ℕ, zero, suc, _+_, _-_, _*_, _≤_, _<_}
+use native.Mathlib.Nat.{add-mul, add-zero, sub-self, mul-assoc, mul-left-comm, mul-le-mul, mul-le-mul-left, mul-le-mul-right, mul-zero, zero-mul}
 use native.Mathlib.Omega.{arith}
-use borrow.Author.Tests.{ltb-true, ltb-false, eqb-true}
+use borrow.Author.Tests.{lt-ltb, le-ltb, ltb-true, ltb-false, eqb-true}
 use lib.Dec.{ltb, eqb}
-use Rattle.energy.proofs.Points.{InRange, Rises, range, rises-next, rule-next, ruled}
-use Rattle.energy.proofs.Rounding.{up-zero, up-le}
-use Rattle.energy.proofs.Tests.{both}
-use Rattle.energy.specs.Curve.{Fraction, whole, between, shareFrom, shareAt, response, risesFrom, pointsRule, pointsOf, curveRule}
+use lib.ListN.{length, getD}
+use Rattle.energy.specs.Curve.{blank, Fraction, whole, between, shareFrom, shareAt, responseTo, response, risesFrom, pointsRule, pointsOf, curveRule}
 use Rattle.energy.specs.declared.curve.Point.{Point}
 use Rattle.energy.specs.declared.curve.Curve.{Curve}
+use Rattle.energy.proofs.Points.{InRange, Rises, range, rises-next, rule-next, ruled}
+use Rattle.energy.proofs.Rounding.{up-one, up-zero, up-exact, up-le}
+use Rattle.energy.proofs.Tests.{both}
 
 -- on the way from s up to t, which is at most 1,000, the share is at most 1,000
 line-le : (s t w x : ℕ) → s ≤ t → t ≤ 1000 → x ≤ w → s * w + (t - s) * x ≤ 1000 * w
@@ -81,6 +83,42 @@ at-zero (p ∷ ps) e =
     let b = both (eqb (p .share) 0) (risesFrom p ps) e in
     by-test (λ (f : Fraction). f .numerator ≡ 0) (ltb 0 (p .deviation)) (whole 0) (shareFrom p ps 0) (λ t. refl)
     (λ t. from-zero p ps (eqb-true (p .share) 0 (b .0)) (b .1))
+
+-- ---- the response at a point
+
+-- no point stands before the first
+first-least : (p : Point) (ps : List Point) (i : ℕ) → risesFrom p ps ≡ true → i < length (p ∷ ps) → p .deviation ≤ getD (p ∷ ps) i blank .deviation
+first-least p ps zero e h = omega arith
+first-least p [] (suc i) e h = absurd (omega arith)
+first-least p (q ∷ ps) (suc i) e h =
+    let r = rises-next p q ps e in
+    omega (arith, first-least q ps i (rule-next p q ps e) (omega arith))
+
+between-point : (mw : ℕ) (p q : Point) → p .deviation < q .deviation → responseTo mw (between p q (p .deviation)) ≡ mw * p .share
+between-point mw p q h =
+    let w = q .deviation - p .deviation in
+    rw (sub-self (p .deviation), mul-zero (q .share - p .share), add-zero (p .share * w), ← mul-assoc mw (p .share) w) (up-exact (mw * p .share) w (omega arith))
+
+from-point : (mw : ℕ) (p : Point) (ps : List Point) (i : ℕ) → risesFrom p ps ≡ true → i < length (p ∷ ps) →
+    let r = getD (p ∷ ps) i blank in
+    responseTo mw (shareFrom p ps (r .deviation)) ≡ mw * r .share
+unfolding shareFrom
+from-point mw p [] zero e h = up-one (mw * p .share)
+from-point mw p [] (suc i) e h = absurd (omega arith)
+from-point mw p (q ∷ ps) zero e h =
+    let r = rises-next p q ps e in
+    rw (lt-ltb (p .deviation) (q .deviation) (r .farther)) (between-point mw p q (r .farther))
+from-point mw p (q ∷ ps) (suc i) e h =
+    let f = rule-next p q ps e in
+    rw (le-ltb (getD (q ∷ ps) i blank .deviation) (q .deviation) (first-least q ps i f (omega arith))) (from-point mw q ps i f (omega arith))
+
+pub at-point : (mw : ℕ) (ps : List Point) (i : ℕ) → pointsRule ps ≡ true → i < length ps →
+    let r = getD ps i blank in
+    responseTo mw (shareAt ps (r .deviation)) ≡ mw * r .share
+at-point mw [] i e h = absurd (false≢true e)
+at-point mw (p ∷ ps) i e h =
+    let f = both (eqb (p .share) 0) (risesFrom p ps) e .1 in
+    rw (le-ltb (getD (p ∷ ps) i blank .deviation) (p .deviation) (first-least p ps i f h)) (from-point mw p ps i f h)
 
 -- ---- responses
 

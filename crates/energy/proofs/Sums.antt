@@ -75,7 +75,9 @@ module _ (rs : List ℕ) where
       unfolding goodReadings every
       bad-reading h bad = rw (eq-eqb (length rs) 3600 (r .long)) (r .good ∙ (rw (next i (omega arith), bad)))
 
-      pub step : curvesRule cs ≡ true → Q low ≤ 1000 → Q high ≤ 1000 → i < 3600 → isReading (getD rs i 0) ≡ true → Read (i + 1) (low-sum + responses low cs (lowDeviation (getD rs i 0))) (high-sum + responses high cs (highDeviation (getD rs i 0)))
+      pub step : curvesRule cs ≡ true → Q low ≤ 1000 → Q high ≤ 1000 → i < 3600 → isReading (getD rs i 0) ≡ true →
+          let r = getD rs i 0 in
+          Read (i + 1) (low-sum + responses low cs (lowDeviation r)) (high-sum + responses high cs (highDeviation r))
       unfolding every
       step rule l1 h1 h good =
           record {

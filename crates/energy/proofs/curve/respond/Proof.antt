@@ -5,9 +5,9 @@ use native.Mathlib.Nat.{le-refl, mul-le-mul}
 use native.Mathlib.Omega.{arith}
 use borrow.Author.Needs.{needs}
 use lib.ListN.{length}
-use Rattle.energy.proofs.Numbers.{in-pairs}
-use Rattle.energy.proofs.Points.{Reached, counted, no-Q, below-first, reach, flat, last-range, next-rises, next-range, here, farther-on}
 use Rattle.energy.specs.Numbers.{pointsIn, curveIn}
+use Rattle.energy.proofs.Numbers.{in-pairs}
+use Rattle.energy.proofs.Points.{Reached, counted, no-quantity, below-first, reach, flat, last-range, next-rises, next-range, here, farther-on}
 use Rattle.energy.proofs.curve.respond.Statement.{statement}
 use Rattle.energy.proofs.curve.respond.Tie as tie
 
@@ -26,7 +26,7 @@ below : (t : tie.In-loop Inv-loop μ-loop) → t .before .loop .i < length (poin
 below t = omega (arith, t .before .loop .inv .0)
 
 returns : tie.Need-returns Inv-loop μ-loop
-returns c = sym (no-Q _ _ _ (c .if1 .taken))
+returns c = sym (no-quantity _ _ _ (c .if1 .taken))
 
 point-at-requires : tie.Need-point-at-requires Inv-loop μ-loop
 point-at-requires c κs = let s = c .before .before in omega (arith, counted (curveIn (s .args .points .now)) (s .pre .1))

@@ -1,9 +1,9 @@
 -- `energy::period::respond_all` meets its contract: at deviation 0 the response is 0. Assumes nothing.
 use mathlib.Core.Path.{sym, ap, _∙_}
 use borrow.Author.Needs.{needs}
-use Rattle.energy.proofs.Responses.{responses-zero}
 use Rattle.energy.specs.Numbers.{curvesIn}
 use Rattle.energy.specs.Period.{responses}
+use Rattle.energy.proofs.Responses.{responses-zero}
 use Rattle.energy.proofs.period.respond_all.Statement.{statement}
 use Rattle.energy.proofs.period.respond_all.Tie as tie
 

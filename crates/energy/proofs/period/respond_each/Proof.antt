@@ -1,9 +1,9 @@
 -- `energy::period::respond_each` meets its contract: the sum is at most 1,000 kW for each MW. Assumes nothing.
 use native.Mathlib.Omega.{arith}
 use borrow.Author.Needs.{needs}
-use Rattle.energy.proofs.Responses.{rules, responses-le}
 use Rattle.energy.specs.Numbers.{curvesIn}
 use Rattle.energy.specs.declared.curve.Curves.{Curves}
+use Rattle.energy.proofs.Responses.{rules, responses-le}
 use Rattle.energy.proofs.period.respond_each.Statement.{statement}
 use Rattle.energy.proofs.period.respond_each.Tie as tie
 

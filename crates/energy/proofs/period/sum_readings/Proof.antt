@@ -5,11 +5,11 @@ use native.Mathlib.Omega.{arith}
 use borrow.Author.Needs.{needs}
 use borrow.Author.Tests.{not-true, not-false}
 use lib.ListN.{getD}
-use Rattle.energy.proofs.Responses.{responses-le}
-use Rattle.energy.proofs.Sums.{Read, declines, wrong-count, begin, bad-reading, step, done}
 use Rattle.energy.specs.Numbers.{curvesIn}
 use Rattle.energy.specs.Period.{responses, lowDeviation, highDeviation}
 use Rattle.energy.specs.declared.curve.Curves.{Curves}
+use Rattle.energy.proofs.Responses.{responses-le}
+use Rattle.energy.proofs.Sums.{Read, declines, wrong-count, begin, bad-reading, step, done}
 use Rattle.energy.proofs.period.sum_readings.Statement.{statement}
 use Rattle.energy.proofs.period.sum_readings.Tie as tie
 
@@ -27,10 +27,16 @@ abbrev curves : tie.Start Inv-loop μ-loop → Curves
 curves s = curvesIn (s .args .dc .now) (s .args .dm .now) (s .args .dr .now)
 
 -- what each direction adds in a turn
-low-added : (c : tie.After-respond-all Inv-loop μ-loop) → let l = c .before .before .before .before .before .before in let s = start l in c .respond-all .result ≡ responses (s .args .low) (curves s) (lowDeviation (getD (s .args .readings .now) (l .loop .i) 0))
+low-added : (c : tie.After-respond-all Inv-loop μ-loop) →
+    let l = c .before .before .before .before .before .before in
+    let s = start l in
+    c .respond-all .result ≡ responses (s .args .low) (curves s) (lowDeviation (getD (s .args .readings .now) (l .loop .i) 0))
 low-added c = c .respond-all .ensures ∙ ap (responses _ _) (c .before .low-deviation .ensures)
 
-high-added : (c : tie.After-respond-all2 Inv-loop μ-loop) → let l = c .before .before .before .before .before .before .before .before in let s = start l in c .respond-all2 .result ≡ responses (s .args .high) (curves s) (highDeviation (getD (s .args .readings .now) (l .loop .i) 0))
+high-added : (c : tie.After-respond-all2 Inv-loop μ-loop) →
+    let l = c .before .before .before .before .before .before .before .before in
+    let s = start l in
+    c .respond-all2 .result ≡ responses (s .args .high) (curves s) (highDeviation (getD (s .args .readings .now) (l .loop .i) 0))
 high-added c = c .respond-all2 .ensures ∙ ap (responses _ _) (c .before .high-deviation .ensures)
 
 returns : tie.Need-returns Inv-loop μ-loop
