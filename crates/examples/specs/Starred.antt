@@ -15,6 +15,8 @@ use Rattle.requirement.specs.declared.Row.{Row as Requirement}
 use Rattle.requirement.specs.Requirement.{left, sched, back, start, end, rowOf, tableOf}
 use Rattle.monitor.specs.declared.Row.{Row}
 use Rattle.monitor.specs.Monitor.{rowsOf, monitoring}
+use Rattle.energy.specs.Curve.{regulationCurve, shareFrom, response}
+use Rattle.energy.specs.Period.{lowDeviation}
 
 -- lines of numbers
 record Example : Type 0 where
@@ -59,6 +61,11 @@ starred =
       printed = nat (100000 ∷ 20000 ∷ []) ∷ nat (10000 ∷ 2000 ∷ []) ∷ [];
       given = volumes (regulation 100) ∷ volumes (containment 40) ∷ [];
     }
+    -- Regulation, 100 MW: 49,985 gives 0 kW; 49,984 gives 541; 49,800 gives 100,000.
+    ∷ record {
+      printed = nat (0 ∷ 541 ∷ 100000 ∷ []) ∷ [];
+      given = nat (map (λ (r : ℕ). response 100 regulationCurve (lowDeviation r)) (49985 ∷ 49984 ∷ 49800 ∷ [])) ∷ [];
+    }
     -- the low table
     ∷ record {
       printed =
@@ -90,5 +97,5 @@ starred =
     ∷ []
 
 starred-hold : map (λ (x : Example). x .given) starred ≡ map (λ (x : Example). x .printed) starred
-unfolding starred volumes containment regulation line bit nat highTable left sched back start end rowOf periodsTo tableOf rowsOf monitoring some
+unfolding starred volumes containment regulation line bit nat highTable left sched back start end rowOf periodsTo tableOf rowsOf monitoring some shareFrom response
 starred-hold = refl

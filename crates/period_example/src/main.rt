@@ -1,0 +1,84 @@
+// Prints bounds, block checks and a part, one number a line in nine columns: the bounds of a period at 49,984 and of one at
+// 50,000 under 100 MW of regulation each way; what the check names in a block with a bad reading, and for another count; the
+// first reading and the length of the part of period 2.
+use energy::block::BlockCheck;
+use energy::block::check_block;
+use energy::block::part;
+use energy::curve::Curves;
+use energy::curve::containment_curve;
+use energy::curve::regulation_curve;
+use energy::period::PeriodEnergy;
+use energy::period::period_energy;
+use libc::STDOUT_FILENO;
+use terms::Quantities;
+
+fn write_blanks(used: usize) {
+    let blanks = [b' '; 9];
+    if used < 9 {
+        io::write_all(STDOUT_FILENO, &blanks[..9 - used]);
+    }
+}
+
+fn write_number(n: u64) {
+    let mut digits = [0u8; 20];
+    let count = io::decimal(n, &mut digits);
+    write_blanks(count);
+    io::write_all(STDOUT_FILENO, &digits[..count]);
+    io::write_all(STDOUT_FILENO, b"\n");
+}
+
+// Both bounds, or a refusal's number.
+fn write_bounds(readings: &[u16]) {
+    let q = Quantities {
+        dc: 0,
+        dm: 0,
+        dr: 100,
+    };
+    let curves = Curves {
+        dc: containment_curve(),
+        dm: regulation_curve(),
+        dr: regulation_curve(),
+    };
+    match period_energy(q, q, curves, readings) {
+        PeriodEnergy::Bounds { low, high } => {
+            write_number(low as u64);
+            write_number(high as u64);
+        }
+        PeriodEnergy::Quantity => write_number(1),
+        PeriodEnergy::Curve => write_number(5),
+        PeriodEnergy::Readings => write_number(6),
+    }
+}
+
+// Period and place, or nothing for a good block.
+fn write_check(block: &[u16]) {
+    match check_block(block) {
+        BlockCheck::Good => {}
+        BlockCheck::Bad { period, place } => {
+            write_number(period as u64);
+            write_number(place as u64);
+        }
+    }
+}
+
+fn write_part(block: &[u16], period: u32) {
+    let readings = part(block, period);
+    if 0 < readings.len() {
+        write_number(readings[0] as u64);
+    }
+    write_number(readings.len() as u64);
+}
+
+fn main() {
+    let readings = [49984u16; 3600];
+    write_bounds(&readings);
+    let readings = [50000u16; 3600];
+    write_bounds(&readings);
+    // The first reading of period 2 differs from the others, and the one at place 13 is bad.
+    let mut block = [50000u16; 28800];
+    block[3600] = 49984;
+    block[3612] = 46999;
+    write_check(&block);
+    write_check(&readings);
+    write_part(&block, 2);
+}
