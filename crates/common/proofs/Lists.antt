@@ -1,18 +1,55 @@
 -- Sums and tests over lists. Assumes nothing.
-use mathlib.Core.Path.{_≡_, sym, _∙_}
-use mathlib.Core.Bool.{Bool, true, false, _||_}
-use mathlib.Core.List.{List, [], _∷_, _++_}
-use Prim.Native.Nat.{ℕ, suc, _+_, _≤_, _<_}
+use mathlib.Core.Path.{_≡_, refl, sym, _∙_}
+use mathlib.Core.Bool.{Bool, true, false, _||_, and-false}
+use mathlib.Core.List.{List, [], _∷_, _++_, map}
+use Prim.Native.Nat.{ℕ, zero, suc, _+_, _*_, _≤_, _<_}
+use native.Mathlib.Nat.{mul-suc}
 use native.Mathlib.Numerals.{add-one}
 use native.Mathlib.Omega.{arith}
-use lib.ListN.{length, getD, drop, drop-of-length-le}
+use lib.ListN.{length, getD, drop, replicate, drop-of-length-le}
 use lib.Seq.{drop-cons}
-use Rattle.common.specs.Lists.{sum, some}
+use Rattle.common.specs.Lists.{sum, every, some}
 
 pub sum-append : (ms ns : List ℕ) → sum (ms ++ ns) ≡ sum ms + sum ns
 unfolding sum
 sum-append [] ns = omega arith
 sum-append (m ∷ ms) ns = omega (arith, sum-append ms ns)
+
+-- ---- a sum of f over a list
+module _ (f : ℕ → ℕ) where
+  pub sum-same : (g : ℕ → ℕ) → ((n : ℕ) → f n ≡ g n) → (ns : List ℕ) → sum (map f ns) ≡ sum (map g ns)
+  unfolding sum
+  sum-same g h [] = refl
+  sum-same g h (n ∷ ns) = rw (h n, sum-same g h ns)
+
+  pub sum-le : (k : ℕ) → ((n : ℕ) → f n ≤ k) → (ns : List ℕ) → sum (map f ns) ≤ k * length ns
+  unfolding sum
+  sum-le k h [] = omega arith
+  sum-le k h (n ∷ ns) = omega (arith, h n, sum-le k h ns, mul-suc k (length ns))
+
+  pub sum-zeros : (n : ℕ) → f n ≡ 0 → (k : ℕ) → sum (map f (replicate k n)) ≡ 0
+  unfolding sum
+  sum-zeros n h zero = refl
+  sum-zeros n h (suc k) = omega (arith, sum-zeros n h k)
+
+-- ---- a test of every entry, by the entries
+module _ {A : Type 0} (holds : A → Bool) where
+  pub every-same : (x : A) → holds x ≡ true → (n : ℕ) → every holds (replicate n x) ≡ true
+  unfolding every
+  every-same x h zero = refl
+  every-same x h (suc n) = rw h (every-same x h n)
+
+  module _ (d : A) where
+    pub every-at : (xs : List A) → ((i : ℕ) → i < length xs → holds (getD xs i d) ≡ true) → every holds xs ≡ true
+    unfolding every
+    every-at [] h = refl
+    every-at (x ∷ xs) h = rw (h 0 (omega arith)) (every-at xs (λ i l. h (suc i) (omega arith)))
+
+    pub every-not : (xs : List A) (i : ℕ) → i < length xs → holds (getD xs i d) ≡ false → every holds xs ≡ false
+    unfolding every
+    every-not [] i l bad = absurd (omega arith)
+    every-not (x ∷ xs) zero l bad = rw bad
+    every-not (x ∷ xs) (suc i) l bad = rw (every-not xs i (omega arith) bad) (and-false (holds x))
 
 -- ---- a loop that looks for an entry: what is left of the list says the same as the whole
 module _ {A : Type 0} (holds : A → Bool) (xs : List A) (i : ℕ) (d : A) where

@@ -1,0 +1,10 @@
+pub mod Blocks
+pub mod Laws
+pub mod Numbers
+pub mod Parts
+pub mod Points
+pub mod Responses
+pub mod Rounding
+pub mod Shares
+pub mod Sums
+pub mod Tests

@@ -1,0 +1,177 @@
+-- The points of a curve: what its rule says of each, and the loops that pass them one by one. Assumes nothing.
+use mathlib.Core.Path.{_≡_, subst, _∙_}
+use mathlib.Core.Bool.{true, false, _&&_}
+use mathlib.Core.List.{List, [], _∷_}
+use Prim.Native.Nat.{ℕ, _+_, _*_, _≤_, _<_}
+use native.Mathlib.Nat.{mul-zero, zero-mul}
+use native.Mathlib.Numerals.{add-one}
+use native.Mathlib.Omega.{arith}
+use borrow.Author.Tests.{le-leb, lt-leb, eq-eqb, ne-eqb, lt-ltb, le-ltb, leb-true, ltb-true}
+use lib.Dec.{leb, eqb}
+use lib.ListN.{length, drop, getD, length-take, drop-of-length-le}
+use lib.Seq.{drop-cons, getD-take}
+use Rattle.energy.proofs.Rounding.{up-zero, up-one}
+use Rattle.energy.proofs.Tests.{both}
+use Rattle.energy.specs.Curve.{blank, pointsOf, inRange, rises, risesFrom, pointsRule, curveRule, between, shareFrom, shareAt, responseTo, response}
+use Rattle.energy.specs.declared.curve.Point.{Point}
+use Rattle.energy.specs.declared.curve.Curve.{Curve}
+
+-- ---- what the rule says
+
+pub record InRange (p : Point) : Type 0 where
+  pub deviation-le : p .deviation ≤ 3000
+  pub share-le : p .share ≤ 1000
+
+pub record Rises (p q : Point) : Type 0 where
+  pub farther : p .deviation < q .deviation
+  pub no-less : p .share ≤ q .share
+
+in-range : (p : Point) → inRange p ≡ true → InRange p
+in-range p e =
+    let b = both _ _ e in
+    record { deviation-le = leb-true _ _ (b .0); share-le = leb-true _ _ (b .1) }
+
+pub range : (p : Point) (ps : List Point) → risesFrom p ps ≡ true → InRange p
+unfolding risesFrom
+range p [] e = in-range p e
+range p (q ∷ ps) e = in-range p (both (inRange p) (rises p q) (both (inRange p && rises p q) (risesFrom q ps) e .0) .0)
+
+pub rises-next : (p q : Point) (ps : List Point) → risesFrom p (q ∷ ps) ≡ true → Rises p q
+unfolding risesFrom
+rises-next p q ps e =
+    let b = both _ _ (both (inRange p) (rises p q) (both (inRange p && rises p q) (risesFrom q ps) e .0) .1) in
+    record { farther = ltb-true _ _ (b .0); no-less = leb-true _ _ (b .1) }
+
+pub rule-next : (p q : Point) (ps : List Point) → risesFrom p (q ∷ ps) ≡ true → risesFrom q ps ≡ true
+unfolding risesFrom
+rule-next p q ps e = both (inRange p && rises p q) (risesFrom q ps) e .1
+
+module _ (c : Curve) where
+  abbrev pub at : ℕ → Point
+  at i = getD (c .points) i blank
+
+  -- the points from the i-th on
+  abbrev pub rest : ℕ → List Point
+  rest i = drop i (pointsOf c)
+
+  next : (i : ℕ) → i < c .count → c .count ≤ length (c .points) → rest i ≡ at i ∷ rest (i + 1)
+  next i h long =
+      let b : i < length (pointsOf c) = simp length-take (omega arith) in
+      rw (add-one i, drop-cons (pointsOf c) i blank b, getD-take (c .count) (c .points) i blank h)
+
+  pub none-left : (i : ℕ) → c .count ≤ i → rest i ≡ []
+  none-left i h =
+      let l : length (pointsOf c) ≤ i = simp length-take (omega arith) in
+      drop-of-length-le (pointsOf c) l
+
+  pub counted : curveRule c ≡ true → (2 ≤ c .count) × (c .count ≤ 5)
+  unfolding curveRule
+  counted e =
+      let b = both _ _ (both _ _ e .0) in
+      (leb-true _ _ (b .0), leb-true _ _ (b .1))
+
+  pub ruled : curveRule c ≡ true → pointsRule (pointsOf c) ≡ true
+  unfolding curveRule
+  ruled e = both (leb 2 (c .count) && leb (c .count) 5) (pointsRule (pointsOf c)) e .1
+
+  -- ---- the loop of `curve_holds`
+
+  pub too-few : c .count < 2 → curveRule c ≡ false
+  unfolding curveRule
+  too-few h = rw (lt-leb 2 (c .count) h)
+
+  pub too-many : 5 < c .count → curveRule c ≡ false
+  unfolding curveRule
+  too-many h = rw (le-leb 2 (c .count) (omega arith), lt-leb (c .count) 5 h)
+
+  module _ (few : 2 ≤ c .count) (many : c .count ≤ 5) (long : c .count ≤ length (c .points)) where
+    pub first-above : (at 0 .share ≡ 0 → ⊥) → curveRule c ≡ false
+    unfolding curveRule
+    first-above h = rw (le-leb 2 (c .count) few, le-leb (c .count) 5 many, next 0 (omega arith) long, ne-eqb (at 0 .share) 0 h)
+
+    pub begin : at 0 .share ≡ 0 → curveRule c ≡ risesFrom (at 0) (rest 1)
+    unfolding curveRule
+    begin h = rw (le-leb 2 (c .count) few, le-leb (c .count) 5 many, next 0 (omega arith) long, eq-eqb (at 0 .share) 0 h)
+
+  module _ (last : Point) (i : ℕ) (so-far : curveRule c ≡ risesFrom last (rest i)) where
+    module _ (h : i < c .count) (long : c .count ≤ length (c .points)) where
+      pub stops : (inRange last && rises last (at i)) ≡ false → curveRule c ≡ false
+      unfolding risesFrom
+      stops bad = so-far ∙ (rw (next i h long, bad))
+
+      pub goes-on : (inRange last && rises last (at i)) ≡ true → curveRule c ≡ risesFrom (at i) (rest (i + 1))
+      unfolding risesFrom
+      goes-on good = so-far ∙ (rw (next i h long, good))
+
+    pub ends : c .count ≤ i → curveRule c ≡ inRange last
+    unfolding risesFrom
+    ends h = so-far ∙ (rw (none-left i h))
+
+  -- ---- the loop of `respond`: the deviation is past the point `last`, and the points from the i-th on decide
+
+  module _ (mw d : ℕ) where
+    pub record Reached (last : Point) (i : ℕ) : Type 0 where
+      pub within : i ≤ c .count
+      pub rule : risesFrom last (rest i) ≡ true
+      pub past : last .deviation ≤ d
+      pub same : response mw c d ≡ responseTo mw (shareFrom last (rest i) d)
+
+    pub no-Q : mw ≡ 0 → response mw c d ≡ 0
+    unfolding response
+    no-Q h = rw (h, zero-mul (shareAt (pointsOf c) d .numerator)) (up-zero (shareAt (pointsOf c) d .denominator))
+
+    module _ (rule : curveRule c ≡ true) (long : c .count ≤ length (c .points)) (p : Point) (first : p ≡ at 0) where
+      starting : rest 0 ≡ p ∷ rest 1
+      starting = rw first (next 0 (omega (arith, counted rule)) long)
+
+      started : pointsRule (p ∷ rest 1) ≡ true
+      started = subst (λ (ps : List Point). pointsRule ps ≡ true) starting (ruled rule)
+
+      pub below-first : d < p .deviation → response mw c d ≡ 0
+      unfolding response
+      below-first h = rw (starting, lt-ltb d (p .deviation) h) (up-one (mw * 0) ∙ mul-zero mw)
+
+      pub reach : p .deviation ≤ d → Reached p 1
+      unfolding response
+      reach h =
+          record {
+            within = omega (arith, counted rule);
+            rule = both (eqb (p .share) 0) (risesFrom p (rest 1)) started .1;
+            past = h;
+            same = rw (starting, le-ltb d (p .deviation) h);
+          }
+
+    module _ {last : Point} {i : ℕ} (r : Reached last i) where
+      pub last-range : InRange last
+      last-range = range last (rest i) (r .rule)
+
+      pub flat : c .count ≤ i → response mw c d ≡ mw * last .share
+      unfolding shareFrom
+      flat h = r .same ∙ (rw (none-left i h) (up-one (mw * last .share)))
+
+      module _ (h : i < c .count) (long : c .count ≤ length (c .points)) (q : Point) (found : q ≡ at i) where
+        following : rest i ≡ q ∷ rest (i + 1)
+        following = rw found (next i h long)
+
+        rule-there : risesFrom last (q ∷ rest (i + 1)) ≡ true
+        rule-there = subst (λ (ps : List Point). risesFrom last ps ≡ true) following (r .rule)
+
+        pub next-rises : Rises last q
+        next-rises = rises-next last q (rest (i + 1)) rule-there
+
+        pub next-range : InRange q
+        next-range = range q (rest (i + 1)) (rule-next last q (rest (i + 1)) rule-there)
+
+        pub here : d < q .deviation → response mw c d ≡ responseTo mw (between last q d)
+        unfolding shareFrom
+        here b = r .same ∙ (rw (following, lt-ltb d (q .deviation) b))
+
+        pub farther-on : q .deviation ≤ d → Reached q (i + 1)
+        unfolding shareFrom
+        farther-on b =
+            record {
+              within = omega arith;
+              rule = rule-next last q (rest (i + 1)) rule-there;
+              past = b;
+              same = r .same ∙ (rw (following, le-ltb d (q .deviation) b));
+            }

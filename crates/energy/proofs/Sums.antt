@@ -1,0 +1,93 @@
+-- The loop of `sum_readings`: after i readings, the sums of both directions so far. Assumes nothing.
+use mathlib.Core.Path.{_≡_, refl, ap, _∙_}
+use mathlib.Core.Bool.{true, false, not}
+use mathlib.Core.List.{List, [], _∷_, map}
+use Prim.Native.Nat.{ℕ, _+_, _*_, _≤_, _<_}
+use native.Mathlib.Numerals.{add-one}
+use native.Mathlib.Omega.{arith}
+use borrow.Author.Tests.{eq-eqb, ne-eqb}
+use lib.ListN.{length, drop, getD, drop-of-length-le}
+use lib.Seq.{drop-cons}
+use Rattle.common.specs.Answer.{Answer, refused, given, cause, checked}
+use Rattle.common.specs.Lists.{sum, every}
+use Rattle.terms.specs.declared.Quantities.{Quantities}
+use Rattle.terms.specs.Terms.{Q}
+use Rattle.energy.specs.Curve.{roundedUp, curvesRule}
+use Rattle.energy.specs.Period.{Bounds, responses, isReading, goodReadings, lowDeviation, highDeviation, bound, lowBound, highBound}
+use Rattle.energy.specs.declared.curve.Curves.{Curves}
+use Rattle.energy.proofs.Responses.{responses-le}
+
+module _ (rs : List ℕ) where
+  next : (i : ℕ) → i < length rs → drop i rs ≡ getD rs i 0 ∷ drop (i + 1) rs
+  next i h = rw (add-one i) (drop-cons rs i 0 h)
+
+  -- ---- one direction: with what the readings from the i-th on respond, s is the whole sum
+
+  module _ (f : ℕ → ℕ) where
+    pub record Summed (i s : ℕ) : Type 0 where
+      pub whole : s + sum (map f (drop i rs)) ≡ sum (map f rs)
+      pub small : s ≤ 1000000 * i
+
+    pub none : Summed 0 0
+    none = record { whole = omega arith; small = omega arith }
+
+    pub one-more : {i s : ℕ} → Summed i s → i < length rs → f (getD rs i 0) ≤ 1000000 → Summed (i + 1) (s + f (getD rs i 0))
+    unfolding sum
+    one-more {i} {s} m h le = record { whole = omega (arith, m .whole, ap (λ (l : List ℕ). sum (map f l)) (next i h)); small = omega arith }
+
+    pub all : {i s : ℕ} → Summed i s → length rs ≤ i → s ≡ sum (map f rs)
+    unfolding sum
+    all {i} {s} m h = omega (arith, m .whole, ap (λ (l : List ℕ). sum (map f l)) (drop-of-length-le rs h))
+
+  -- ---- both directions
+
+  pub wrong-count : (length rs ≡ 3600 → ⊥) → goodReadings rs ≡ false
+  unfolding goodReadings
+  wrong-count h = rw (ne-eqb (length rs) 3600 h)
+
+  module _ (low high : Quantities) (cs : Curves) where
+    pub record Read (i low-sum high-sum : ℕ) : Type 0 where
+      pub long : length rs ≡ 3600
+      pub within : i ≤ 3600
+      pub good : every isReading rs ≡ every isReading (drop i rs)
+      pub lows : Summed (λ (r : ℕ). responses low cs (lowDeviation r)) i low-sum
+      pub highs : Summed (λ (r : ℕ). responses high cs (highDeviation r)) i high-sum
+
+    -- refusal 6, or both bounds
+    abbrev pub fromReadings : Answer Bounds
+    fromReadings = checked (cause 6 (not (goodReadings rs)) ∷ []) (record { low = lowBound low cs rs; high = highBound high cs rs })
+
+    pub declines : goodReadings rs ≡ false → refused 6 ≡ fromReadings
+    declines h = rw h
+
+    pub begin : length rs ≡ 3600 → Read 0 0 0
+    begin h =
+        record {
+          long = h;
+          within = omega arith;
+          good = refl;
+          lows = none (λ (r : ℕ). responses low cs (lowDeviation r));
+          highs = none (λ (r : ℕ). responses high cs (highDeviation r));
+        }
+
+    module _ {i low-sum high-sum : ℕ} (r : Read i low-sum high-sum) where
+      pub bad-reading : i < 3600 → isReading (getD rs i 0) ≡ false → goodReadings rs ≡ false
+      unfolding goodReadings every
+      bad-reading h bad = rw (eq-eqb (length rs) 3600 (r .long)) (r .good ∙ (rw (next i (omega arith), bad)))
+
+      pub step : curvesRule cs ≡ true → Q low ≤ 1000 → Q high ≤ 1000 → i < 3600 → isReading (getD rs i 0) ≡ true → Read (i + 1) (low-sum + responses low cs (lowDeviation (getD rs i 0))) (high-sum + responses high cs (highDeviation (getD rs i 0)))
+      unfolding every
+      step rule l1 h1 h good =
+          record {
+            long = r .long;
+            within = omega arith;
+            good = r .good ∙ (rw (next i (omega arith), good));
+            lows = one-more _ (r .lows) (omega arith) (omega (arith, responses-le low cs rule (lowDeviation (getD rs i 0))));
+            highs = one-more _ (r .highs) (omega arith) (omega (arith, responses-le high cs rule (highDeviation (getD rs i 0))));
+          }
+
+      pub done : 3600 ≤ i → given (record { low = roundedUp low-sum 7200; high = roundedUp high-sum 7200 }) ≡ fromReadings
+      unfolding goodReadings every bound
+      done h =
+          let e : every isReading rs ≡ true = r .good ∙ (rw (drop-of-length-le rs {i = i} (omega arith))) in
+          rw (all _ (r .lows) (omega arith), all _ (r .highs) (omega arith), eq-eqb (length rs) 3600 (r .long), e)

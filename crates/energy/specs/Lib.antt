@@ -1,0 +1,4 @@
+pub mod Block
+pub mod Curve
+pub mod Numbers
+pub mod Period
