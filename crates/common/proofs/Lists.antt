@@ -1,6 +1,6 @@
 -- Sums and tests over lists. Assumes nothing.
 use mathlib.Core.Path.{_≡_, refl, sym, _∙_}
-use mathlib.Core.Bool.{Bool, true, false, _||_, and-false}
+use mathlib.Core.Bool.{Bool, true, false, _&&_, _||_, and-assoc, and-false}
 use mathlib.Core.List.{List, [], _∷_, _++_, map}
 use Prim.Native.Nat.{ℕ, zero, suc, _+_, _*_, _≤_, _<_}
 use native.Mathlib.Nat.{mul-suc}
@@ -34,6 +34,11 @@ module _ (f : ℕ → ℕ) where
 
 -- ---- a test of every entry, by the entries
 module _ {A : Type 0} (holds : A → Bool) where
+  pub every-append : (xs ys : List A) → every holds (xs ++ ys) ≡ every holds xs && every holds ys
+  unfolding every
+  every-append [] ys = refl
+  every-append (x ∷ xs) ys = rw (every-append xs ys) (sym (and-assoc (holds x) (every holds xs) (every holds ys)))
+
   pub every-same : (x : A) → holds x ≡ true → (n : ℕ) → every holds (replicate n x) ≡ true
   unfolding every
   every-same x h zero = refl
