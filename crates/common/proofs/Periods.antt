@@ -17,7 +17,7 @@ module _ {A : Type 0} (f : ℕ → A) where
   unfolding periodsTo
   map-next n = rw map-append
 
-  length-periods : (n : ℕ) → length (map f (periodsTo n)) ≡ n
+  pub length-periods : (n : ℕ) → length (map f (periodsTo n)) ≡ n
   unfolding periodsTo
   length-periods zero = refl
   length-periods (suc n) = rw (map-append, length-append, length-periods n) (add-one n)
