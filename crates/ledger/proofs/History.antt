@@ -50,7 +50,7 @@ module _ (b : Battery) where
     pub high : b .high .bound readings ≡ 0
 
   module _ (h : History) (c : Closing) where
-    new-is : above (newState (stateAfter b h) c) + (below (stateAfter b h) + below (c .purchase) + above (c .delivered) + below (c .taken))
+    pub new-is : above (newState (stateAfter b h) c) + (below (stateAfter b h) + below (c .purchase) + above (c .delivered) + below (c .taken))
         ≡ above (stateAfter b h) + above (c .purchase) + below (c .delivered) + above (c .taken) + below (newState (stateAfter b h) c)
     new-is =
         let s = stateAfter b h +ℤ c .purchase in

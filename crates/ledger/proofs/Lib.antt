@@ -1,3 +1,4 @@
+pub mod Agreement
 pub mod Directions
 pub mod Eight
 pub mod Entries
