@@ -3,3 +3,4 @@ pub mod Directions
 pub mod Eight
 pub mod Entries
 pub mod History
+pub mod Promise

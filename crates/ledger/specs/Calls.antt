@@ -6,7 +6,7 @@ use lib.Dec.{eqb}
 use lib.IntN.{ℤ, pos, _+ℤ_, _-ℤ_}
 use lib.ListN.{set}
 use lib.Signed.{ltZ}
-use Rattle.common.specs.Answer.{Answer, refused, given, cause, checked}
+use Rattle.common.specs.Answer.{Answer, refused, given, Cause, cause, checked}
 use Rattle.common.specs.Periods.{ofPeriod}
 use Rattle.signed.specs.Sign.{above, below, greater, within}
 use Rattle.terms.specs.Terms.{REV, ER}
@@ -121,15 +121,16 @@ module _ (r : Record) (c : Closing) where
   high = highBound (r .terms .high) (r .curves) (c .readings)
 
   -- closing checks 10, 8, 6, 9
-  unfoldable pub closing : Answer Record
-  closing =
-      checked
-      (cause 10 (unusable r)
+  abbrev pub closingCauses : List Cause
+  closingCauses =
+      cause 10 (unusable r)
       ∷ cause 8 (not (accepts r (c .purchase)))
       ∷ cause 6 (not (goodReadings (c .readings)))
       ∷ cause 9 (not (settles low high (r .size) (pos (r .state)) c))
-      ∷ [])
-      (closedRecord r low high c)
+      ∷ []
+
+  unfoldable pub closing : Answer Record
+  closing = checked closingCauses (closedRecord r low high c)
 
 -- ---- the number and values of each case of the code's answers
 
