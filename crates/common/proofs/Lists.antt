@@ -6,14 +6,19 @@ use Prim.Native.Nat.{ℕ, zero, suc, _+_, _*_, _≤_, _<_}
 use native.Mathlib.Nat.{mul-suc}
 use native.Mathlib.Numerals.{add-one}
 use native.Mathlib.Omega.{arith}
-use lib.ListN.{length, getD, drop, replicate, drop-of-length-le}
-use lib.Seq.{drop-cons}
+use lib.ListN.{length, getD, take, drop, replicate, drop-of-length-le}
+use lib.Seq.{take-suc, drop-cons}
 use Rattle.common.specs.Lists.{sum, every, some}
 
 pub sum-append : (ms ns : List ℕ) → sum (ms ++ ns) ≡ sum ms + sum ns
 unfolding sum
 sum-append [] ns = omega arith
 sum-append (m ∷ ms) ns = omega (arith, sum-append ms ns)
+
+-- a turn of a loop that sums a list
+pub sum-take : (ns : List ℕ) (i : ℕ) → i < length ns → sum (take (i + 1) ns) ≡ sum (take i ns) + getD ns i 0
+unfolding sum
+sum-take ns i h = rw (add-one i, take-suc ns i 0 h, sum-append) (omega arith)
 
 -- ---- a sum of f over a list
 module _ (f : ℕ → ℕ) where

@@ -14,6 +14,10 @@ not-leb a b = by (decLe a b)
     by (yes h) = rw (le-leb a b h, le-ltb b a h)
     by (no h) = rw (lt-leb a b (omega arith), lt-ltb b a (omega arith))
 
+pub not-not : (b : Bool) → not (not b) ≡ b
+not-not true = refl
+not-not false = refl
+
 pub both-true : (a b : Bool) → a && b ≡ true → (a ≡ true) × (b ≡ true)
 both-true true b e = (refl, e)
 both-true false b e = let o : _≡_ {A = ℕ} 0 1 = cc in absurd (omega arith)

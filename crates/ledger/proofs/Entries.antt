@@ -20,7 +20,7 @@ use Rattle.terms.specs.Terms.{Q, REV, ER}
 use Rattle.terms.specs.declared.Quantities.{Quantities}
 use Rattle.requirement.specs.Requirement.{start, sched, back}
 use Rattle.requirement.proofs.Laws.{start-local, sched-local}
-use Rattle.ledger_record.specs.Rule.{startAt, schedAt, backAt, entryIs, entryRule, entriesRule}
+use Rattle.ledger_record.specs.Rule.{startAt, schedAt, backAt, notes, entryRule, entriesRule}
 use Rattle.ledger_record.specs.declared.Entries.{Entries}
 use Rattle.ledger.specs.Calls.{Closing, need, closedEntries}
 use Rattle.ledger.specs.Promise.{History, Direction, extend, bounds, startAfter, backAfter, needAfter, eightOf, entriesAfter}
@@ -75,7 +75,7 @@ module _ (q : Quantities) (bound : List ℕ → ℕ) (h : History) where
     bounds-at = rw at-is (eight-at 0 (bounds d h) k)
 
     -- of a closed period they are those of the bounds
-    closed-is : k < n → entryIs x (suc k) (ofPeriod (x .bounds) (suc k)) (startAt q x (suc k)) (schedAt q x (suc k)) ≡ true
+    closed-is : k < n → notes x (suc k) (startAt q x (suc k)) (schedAt q x (suc k)) ≡ true
     closed-is l =
         rw (
           start-here (suc k),
@@ -86,11 +86,10 @@ module _ (q : Quantities) (bound : List ℕ → ℕ) (h : History) where
           period-at (sched (ER q) e) n k 0 l,
           eqZ-refl (start (REV q) (ER q) e (suc k)),
           eq-eqb (sched (ER q) e (suc k)) (sched (ER q) e (suc k)) refl,
-          eq-eqb (ofPeriod (x .bounds) (suc k)) (ofPeriod (x .bounds) (suc k)) refl,
         )
 
     -- of a period not closed they are 0
-    open-is : n ≤ k → entryIs x (suc k) 0 (pos 0) 0 ≡ true
+    open-is : n ≤ k → eqb (ofPeriod (x .bounds) (suc k)) 0 && notes x (suc k) (pos 0) 0 ≡ true
     open-is l =
         let long = length-map h (λ (c : Closing). bound (c .readings)) in
         let l₁ : length (bounds d h) ≤ k = omega arith in

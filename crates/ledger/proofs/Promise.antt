@@ -102,14 +102,15 @@ module _ (t : Terms) (curves : Curves) (size first : ℕ) (no-number : clear (op
     given-exactly c = given-is (closingCauses r c) (closedRecord r (low r c) (high r c) c) ∙ rw (usable, accepting (c .purchase), settling c)
 
     carried-exactly : (c : Closing) → isGiven (closing r c) ≡ true ↔ NoCause b h c
-    carried-exactly c =
-        (λ e.
-        let w = four (eqb (length h) 8) (accepts b h (c .purchase)) (goodReadings (c .readings)) (settled b h c) (sym (given-exactly c) ∙ e) in
-        let n = eqb-false (length h) 8 (w .0) in
-        no-cause b h c (omega (arith, n, a .passes .eight)) (w .1) (w .2) (w .3),
-        λ o.
-        let n : eqb (length h) 8 ≡ false = ne-eqb (length h) 8 (λ e. omega (arith, o .before-eight)) in
-        given-exactly c ∙ rw (n, no-cause-accepts b h c o, o .good, no-cause-settled b h c o))
+    carried-exactly c = (
+      λ e.
+          let w = four (eqb (length h) 8) (accepts b h (c .purchase)) (goodReadings (c .readings)) (settled b h c) (sym (given-exactly c) ∙ e) in
+          let n = eqb-false (length h) 8 (w .0) in
+          no-cause b h c (omega (arith, n, a .passes .eight)) (w .1) (w .2) (w .3),
+      λ o.
+          let n : eqb (length h) 8 ≡ false = ne-eqb (length h) 8 (λ e. omega (arith, o .before-eight)) in
+          given-exactly c ∙ rw (n, no-cause-accepts b h c o, o .good, no-cause-settled b h c o),
+    )
 
     -- ---- a refused call leaves the record as it was
     refused-leaves : (call : Call) (k : ℕ) → Gives r call k → after r call ≡ r
@@ -124,13 +125,14 @@ module _ (t : Terms) (curves : Curves) (size first : ℕ) (no-number : clear (op
 
       accepted-exactly : (p : ℤ) → checking r p ≡ given tt ↔ accepts b h p ≡ true
       unfolding checking
-      accepted-exactly p =
-          (λ e.
-          let w = given-clear (cause 10 (unusable r) ∷ cause 8 (not (calls.accepts r p)) ∷ []) tt tt e in
-          let x = both-true (not (unusable r)) (not (not (calls.accepts r p)) && true) w in
-          let y = both-true (not (not (calls.accepts r p))) true (x .1) in
-          sym (accepting p) ∙ not-not (calls.accepts r p) (y .0),
-          λ e. rw (is-usable, accepting p, e))
+      accepted-exactly p = (
+        λ e.
+            let w = given-clear (cause 10 (unusable r) ∷ cause 8 (not (calls.accepts r p)) ∷ []) tt tt e in
+            let x = both-true (not (unusable r)) (not (not (calls.accepts r p)) && true) w in
+            let y = both-true (not (not (calls.accepts r p))) true (x .1) in
+            sym (accepting p) ∙ not-not (calls.accepts r p) (y .0),
+        λ e. rw (is-usable, accepting p, e),
+      )
 
       refused-is : (p : ℤ) → checking r p ≡ refused 8 ↔ accepts b h p ≡ false
       unfolding checking every

@@ -1,6 +1,5 @@
 -- Paper 01, "Ledger": the record rule. Assumes nothing.
 use mathlib.Core.Bool.{Bool, cond, _&&_}
-use mathlib.Core.List.{List}
 use Prim.Native.Nat.{ℕ, suc, _-_, _*_}
 use lib.Dec.{leb, eqb}
 use lib.IntN.{ℤ, pos, _+ℤ_, _-ℤ_}
@@ -28,19 +27,16 @@ schedAt q x i = sched (ER q) (ofPeriod (x .bounds)) i
 unfoldable pub backAt : Quantities → Entries → ℕ → ℕ
 backAt q x i = back (ER q) (ofPeriod (x .bounds)) i
 
--- the entries of period i
-abbrev pub entryIs : Entries → ℕ → ℕ → ℤ → ℕ → Bool
-entryIs x i bound start sched =
-    eqb (ofPeriod (x .bounds) i) bound
-    && eqZ (getD (x .starts) (i - 1) (pos 0)) start
-    && eqb (ofPeriod (x .scheds) i) sched
+-- the requirement and the schedule in the entries of period i
+abbrev pub notes : Entries → ℕ → ℤ → ℕ → Bool
+notes x i start sched = eqZ (getD (x .starts) (i - 1) (pos 0)) start && eqb (ofPeriod (x .scheds) i) sched
 
 -- bounds are at most 500 × Q; requirements and schedules are those of the bounds, and entries of periods not closed are 0
 unfoldable pub entryRule : Quantities → ℕ → Entries → ℕ → Bool
 entryRule q closed x i =
     cond (leb i closed)
-    (leb (ofPeriod (x .bounds) i) (500 * Q q) && entryIs x i (ofPeriod (x .bounds) i) (startAt q x i) (schedAt q x i))
-    (entryIs x i 0 (pos 0) 0)
+    (leb (ofPeriod (x .bounds) i) (500 * Q q) && notes x i (startAt q x i) (schedAt q x i))
+    (eqb (ofPeriod (x .bounds) i) 0 && notes x i (pos 0) 0)
 
 unfoldable pub entriesRule : Quantities → ℕ → Entries → Bool
 entriesRule q closed x = every (entryRule q closed x) (periodsTo 8)

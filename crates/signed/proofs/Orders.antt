@@ -1,17 +1,17 @@
 -- Tests of whole numbers, read as facts and back. Assumes nothing.
-use mathlib.Core.Path.{_≡_, refl, sym, subst, _∙_}
+use mathlib.Core.Path.{_≡_, refl, sym, ap, subst, _∙_}
 use mathlib.Core.Logic.{_⊎_, inl, inr}
-use mathlib.Core.Bool.{Bool, true, false, not, _&&_}
-use Prim.Native.Nat.{ℕ, _+_, _≤_, _<_}
+use mathlib.Core.Bool.{Bool, true, false}
+use Prim.Native.Nat.{ℕ, _+_, _<_}
 use native.Mathlib.Omega.{arith}
-use native.Mathlib.Decide.{ℕ-discrete}
-use borrow.Author.Tests.{leb-true, leb-false, ltb-true, ltb-false, le-leb, lt-leb, eq-eqb, ne-eqb, lt-ltb, le-ltb}
-use lib.Dec.{T, leb, ltb, eqb, leb·zero}
-use lib.IntN.{ℤ, pos, negsuc}
+use native.Mathlib.Decide.{decLt}
+use borrow.Author.Tests.{leb-false, ltb-false, eqb-true, eq-eqb, ne-eqb, lt-ltb, le-ltb}
+use lib.Dec.{T, ltb, eqb, leb·zero}
+use lib.IntN.{ℤ, pos, negsuc, _+ℤ_, _-ℤ_}
 use lib.Signed.{leZ, ltZ, _≤ℤ_, _<ℤ_, leZ-yes, ltZ-yes}
 use Rattle.common.proofs.Tests.{both-true}
 use Rattle.signed.specs.Sign.{above, below, eqZ, greater, within}
-use Rattle.signed.proofs.Whole.{whole, one-sided, ≤-write, <-write}
+use Rattle.signed.proofs.Whole.{whole, sum, less, same, ≤-write, <-write}
 
 is-true : (b : Bool) → T b → b ≡ true
 is-true true t = refl
@@ -66,3 +66,47 @@ eqZ-refl (negsuc n) = eq-eqb n n refl
 pub greater-zero : (z : ℤ) → greater (pos 0) z ≡ pos (above z)
 greater-zero (pos n) = rw (leb·zero n)
 greater-zero (negsuc n) = refl
+
+pub false-ltZ : {a b : ℤ} → b ≤ℤ a → ltZ a b ≡ false
+false-ltZ {a} {b} h = by (ltZ a b) refl
+  where
+    by : (c : Bool) → ltZ a b ≡ c → c ≡ false
+    by true e = let l = ltZ-true {a = a} {b = b} e in absurd (omega (arith, whole))
+    by false e = refl
+
+-- size − h < s, in natural numbers
+pub less-ltZ : (size h s : ℕ) → ltZ (pos size -ℤ pos h) (pos s) ≡ ltb size (s + h)
+less-ltZ size h s = by (decLt size (s + h))
+  where
+    by : Dec (size < s + h) → ltZ (pos size -ℤ pos h) (pos s) ≡ ltb size (s + h)
+    by (yes l) = true-ltZ {a = pos size -ℤ pos h} {b = pos s} (omega (arith, whole, less (pos size) (pos h))) ∙ sym (lt-ltb size (s + h) l)
+    by (no l) = false-ltZ {a = pos size -ℤ pos h} {b = pos s} (omega (arith, whole, less (pos size) (pos h))) ∙ sym (le-ltb size (s + h) (omega arith))
+
+eqZ-true : (a b : ℤ) → eqZ a b ≡ true → a ≡ b
+eqZ-true (pos m) (pos n) e = ap pos (eqb-true m n e)
+eqZ-true (pos m) (negsuc n) e = absurd (subst T (sym e) tt)
+eqZ-true (negsuc m) (pos n) e = absurd (subst T (sym e) tt)
+eqZ-true (negsuc m) (negsuc n) e = ap negsuc (eqb-true m n e)
+
+-- s = f + b − o − d + t, in natural numbers
+module _ (s f b o d t : ℕ) where
+  abbrev u : ℤ
+  u = pos f +ℤ pos b -ℤ pos o -ℤ pos d +ℤ pos t
+
+  adds : above u + (o + d) ≡ f + b + t + below u
+  adds =
+      let x = pos f +ℤ pos b in
+      let y = x -ℤ pos o in
+      omega (arith, sum (pos f) (pos b), less x (pos o), less y (pos d), sum (y -ℤ pos d) (pos t))
+
+  pub balance : eqZ (pos s) u ≡ eqb (s + (o + d)) (f + b + t)
+  balance = by (eqZ (pos s) u) refl
+    where
+      by : (c : Bool) → eqZ (pos s) u ≡ c → c ≡ eqb (s + (o + d)) (f + b + t)
+      by true e = let p = eqZ-true (pos s) u e in sym (eq-eqb (s + (o + d)) (f + b + t) (omega (arith, adds, ap above p, ap below p)))
+      by false e =
+          sym (ne-eqb (s + (o + d)) (f + b + t) (λ q.
+          let p = same (pos s) u (omega (arith, adds)) in
+          let same-test : eqZ (pos s) u ≡ true = subst (λ z. eqZ (pos s) z ≡ true) p (eqZ-refl (pos s)) in
+          let clash : _≡_ {A = ℕ} 0 1 = cc in
+          omega arith))
