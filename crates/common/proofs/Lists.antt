@@ -15,6 +15,11 @@ unfolding sum
 sum-append [] ns = omega arith
 sum-append (m ∷ ms) ns = omega (arith, sum-append ms ns)
 
+pub sum-entries : (k : ℕ) (ns : List ℕ) → ((i : ℕ) → i < length ns → getD ns i 0 ≤ k) → sum ns ≤ k * length ns
+unfolding sum
+sum-entries k [] h = omega arith
+sum-entries k (n ∷ ns) h = omega (arith, h 0 (omega arith), sum-entries k ns (λ i l. h (suc i) (omega arith)), mul-suc k (length ns))
+
 -- a turn of a loop that sums a list
 pub sum-take : (ns : List ℕ) (i : ℕ) → i < length ns → sum (take (i + 1) ns) ≡ sum (take i ns) + getD ns i 0
 unfolding sum

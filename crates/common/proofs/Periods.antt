@@ -11,6 +11,7 @@ use lib.Seq.{take-all, take-suc-set, getD-at}
 use Rattle.common.specs.Lists.{every}
 use Rattle.common.specs.Periods.{periodsTo}
 use Rattle.common.proofs.Lists.{every-append}
+use Rattle.common.proofs.Tests.{both-true}
 
 module _ {A : Type 0} (f : ℕ → A) where
   pub map-next : (n : ℕ) → map f (periodsTo (suc n)) ≡ map f (periodsTo n) ++ (f (suc n) ∷ [])
@@ -55,3 +56,14 @@ module _ (holds : ℕ → Bool) where
   unfolding periodsTo every
   every-period zero h = refl
   every-period (suc n) h = every-next n ∙ rw (every-period n (λ k l. h k (omega arith)), h n (omega arith))
+
+  pub period-holds : (n k : ℕ) → every holds (periodsTo n) ≡ true → k < n → holds (suc k) ≡ true
+  period-holds zero k e l = absurd (omega arith)
+  period-holds (suc n) k e l = by (decLt k n) (λ m. period-holds n k (w .0) m)
+    where
+      w : (every holds (periodsTo n) ≡ true) × (holds (suc n) ≡ true)
+      w = both-true (every holds (periodsTo n)) (holds (suc n)) (sym (every-next n) ∙ e)
+
+      by : Dec (k < n) → (k < n → holds (suc k) ≡ true) → holds (suc k) ≡ true
+      by (yes m) rest = rest m
+      by (no m) rest = let p : k ≡ n = omega arith in rw p (w .1)

@@ -177,7 +177,7 @@ module _ (t : Terms) (curves : Curves) (size first : ℕ) (no-number : clear (op
     unfolding calls.proposal proposal recordAfter
     proposal-is = rw (needs-are .0, needs-are .1, state-is)
 
-    pub settles-are : (c : Closing) → settles (low r c) (high r c) (r .size) (pos (r .state)) c ≡ settled b h c
+    pub settles-are : (c : Closing) → settles (low r c) (high r c) (r .size) (c .delivered) (c .taken) (newState (pos (r .state)) c) ≡ settled b h c
     unfolding settled recordAfter
     settles-are c = rw state-is
 

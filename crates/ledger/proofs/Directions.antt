@@ -8,11 +8,10 @@ use lib.IntN.{ℤ, pos, _+ℤ_, _-ℤ_}
 use lib.ListN.{length, length-append, length-map, List·getD-append}
 use lib.Seq.{getD-at}
 use Rattle.common.specs.Periods.{ofPeriod}
-use Rattle.signed.specs.Sign.{above, below, greater}
-use Rattle.signed.proofs.Whole.{one-sided, sum, less}
-use Rattle.signed.proofs.Orders.{greater-zero}
+use Rattle.signed.specs.Sign.{above, below}
+use Rattle.signed.proofs.Whole.{sum, less}
 use Rattle.requirement.specs.Requirement.{start, back}
-use Rattle.requirement.proofs.Shortfall.{shortfall, start-is, back-le}
+use Rattle.requirement.proofs.Need.{needed-is, needed-most}
 use Rattle.requirement.proofs.Laws.{back-recovery, start-local, back-local}
 use Rattle.ledger.specs.Calls.{Closing}
 use Rattle.ledger.specs.Promise.{History, Direction, extend, bounds, startAfter, backAfter, needAfter}
@@ -23,19 +22,12 @@ module _ (d : Direction) (h : History) where
   need = above (startAfter d h) + backAfter d h - below (startAfter d h)
 
   pub need-is : needAfter d h ≡ pos need
-  unfolding needAfter
-  need-is =
-      let z = startAfter d h +ℤ pos (backAfter d h) in
-      let p : above z ≡ need = omega (arith, sum (startAfter d h) (pos (backAfter d h)), one-sided z) in
-      greater-zero z ∙ ap pos p
+  unfolding needAfter startAfter backAfter
+  need-is = needed-is (d .REV) (d .ER) (ofPeriod (bounds d h)) (suc (length h))
 
   pub need-most : need ≤ d .REV
   unfolding startAfter backAfter
-  need-most =
-      let i = suc (length h) in
-      let k = shortfall (d .ER) (ofPeriod (bounds d h)) i in
-      let is = start-is (d .REV) (d .ER) (ofPeriod (bounds d h)) i in
-      omega (arith, ap above is, ap below is, less (pos (d .REV)) (pos k), back-le (d .ER) (ofPeriod (bounds d h)) i)
+  need-most = needed-most (d .REV) (d .ER) (ofPeriod (bounds d h)) (suc (length h))
 
   pub back-most : backAfter d h ≤ d .ER
   unfolding backAfter

@@ -34,7 +34,7 @@ module _ (b : Battery) where
     proposal = toward floor (stateAfter b h) ceiling
 
     unfoldable pub settled : Closing → Bool
-    settled c = settles (b .low .bound (c .readings)) (b .high .bound (c .readings)) (b .size) (stateAfter b h) c
+    settled c = settles (b .low .bound (c .readings)) (b .high .bound (c .readings)) (b .size) (c .delivered) (c .taken) (newState (stateAfter b h) c)
 
   -- what opening lets through
   pub record Opened : Type 0 where

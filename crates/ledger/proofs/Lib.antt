@@ -3,4 +3,7 @@ pub mod Directions
 pub mod Eight
 pub mod Entries
 pub mod History
+pub mod NextRow
 pub mod Promise
+pub mod Settling
+pub mod Usable

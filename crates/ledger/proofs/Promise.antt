@@ -22,7 +22,7 @@ use Rattle.energy.proofs.Laws.{still-good, still-low, still-high}
 use Rattle.ledger_record.specs.Opening.{openingCauses, firstRecord, opening}
 use Rattle.ledger_record.specs.declared.Record.{Record}
 use Rattle.ledger_record.proofs.Openings.{Fits, opening-fits}
-use Rattle.ledger.specs.Calls.{Closing, unusable, checking, proposing, closingCauses, closing, closedRecord, settles, low, high}
+use Rattle.ledger.specs.Calls.{Closing, newState, unusable, checking, proposing, closingCauses, closing, closedRecord, settles, low, high}
 use Rattle.ledger.specs.Calls as calls
 use Rattle.ledger.specs.Promise.{Call, check, propose, close, after, run, Gives, History, done, carriedOut, extend, Battery, NoCause, Open, Promise, battery, stateAfter, entriesAfter, recordAfter, Demand3}
 use Rattle.ledger.proofs.History.{Opened, Still, Passes, accepts, proposal, settled, first-passes, next-passes, no-cause, no-cause-accepts, no-cause-settled, proposal-nearest, safe, refused-exactly, refused-fails}
@@ -76,8 +76,8 @@ module _ (t : Terms) (curves : Curves) (size first : ℕ) (no-number : clear (op
     accepting : (p : ℤ) → calls.accepts r p ≡ accepts b h p
     accepting p = ap (λ (r : Record). calls.accepts r p) (a .is-record) ∙ accepts-are t curves size first no-number h (a .passes) p
 
-    settling : (c : Closing) → settles (low r c) (high r c) (r .size) (pos (r .state)) c ≡ settled b h c
-    settling c = ap (λ (r : Record). settles (low r c) (high r c) (r .size) (pos (r .state)) c) (a .is-record) ∙ settles-are t curves size first no-number h (a .passes) c
+    settling : (c : Closing) → settles (low r c) (high r c) (r .size) (c .delivered) (c .taken) (newState (pos (r .state)) c) ≡ settled b h c
+    settling c = ap (λ (r : Record). settles (low r c) (high r c) (r .size) (c .delivered) (c .taken) (newState (pos (r .state)) c)) (a .is-record) ∙ settles-are t curves size first no-number h (a .passes) c
 
     -- ---- 10 exactly when eight closings are carried out
     eight-is : unusable r ≡ true ↔ length h ≡ 8

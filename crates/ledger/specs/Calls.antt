@@ -75,15 +75,18 @@ pub record Closing : Type 0 where
   pub taken : ℤ
 
 -- new state = state + p − delivered + taken
+abbrev pub moved : ℤ → ℤ → ℤ → ℤ → ℤ
+moved state p delivered taken = state +ℤ p -ℤ delivered +ℤ taken
+
 abbrev pub newState : ℤ → Closing → ℤ
-newState state c = state +ℤ c .purchase -ℤ c .delivered +ℤ c .taken
+newState state c = moved state (c .purchase) (c .delivered) (c .taken)
 
 -- delivered and taken are each from 0 to their bound, and the new state lies in 0..size
-abbrev pub settles : ℕ → ℕ → ℕ → ℤ → Closing → Bool
-settles low high size state c =
-    within (pos 0) (c .delivered) (pos low)
-    && within (pos 0) (c .taken) (pos high)
-    && within (pos 0) (newState state c) (pos size)
+abbrev pub settles : ℕ → ℕ → ℕ → ℤ → ℤ → ℤ → Bool
+settles low high size delivered taken new =
+    within (pos 0) delivered (pos low)
+    && within (pos 0) taken (pos high)
+    && within (pos 0) new (pos size)
 
 -- a direction's entries with one period more: its bound, its start and its schedule
 unfoldable pub closedEntries : Quantities → Entries → ℕ → ℕ → Entries
@@ -126,7 +129,7 @@ module _ (r : Record) (c : Closing) where
       cause 10 (unusable r)
       ∷ cause 8 (not (accepts r (c .purchase)))
       ∷ cause 6 (not (goodReadings (c .readings)))
-      ∷ cause 9 (not (settles low high (r .size) (pos (r .state)) c))
+      ∷ cause 9 (not (settles low high (r .size) (c .delivered) (c .taken) (newState (pos (r .state)) c)))
       ∷ []
 
   unfoldable pub closing : Answer Record

@@ -1,12 +1,12 @@
 -- Tests of whole numbers, read as facts and back. Assumes nothing.
 use mathlib.Core.Path.{_≡_, refl, sym, ap, subst, _∙_}
 use mathlib.Core.Logic.{_⊎_, inl, inr}
-use mathlib.Core.Bool.{Bool, true, false}
-use Prim.Native.Nat.{ℕ, _+_, _<_}
+use mathlib.Core.Bool.{Bool, true, false, _&&_}
+use Prim.Native.Nat.{ℕ, suc, _+_, _≤_, _<_}
 use native.Mathlib.Omega.{arith}
-use native.Mathlib.Decide.{decLt}
-use borrow.Author.Tests.{leb-false, ltb-false, eqb-true, eq-eqb, ne-eqb, lt-ltb, le-ltb}
-use lib.Dec.{T, ltb, eqb, leb·zero}
+use native.Mathlib.Decide.{decLt, decLe}
+use borrow.Author.Tests.{leb-false, ltb-false, eqb-true, le-leb, lt-leb, eq-eqb, ne-eqb, lt-ltb, le-ltb}
+use lib.Dec.{T, leb, ltb, eqb, leb·zero}
 use lib.IntN.{ℤ, pos, negsuc, _+ℤ_, _-ℤ_}
 use lib.Signed.{leZ, ltZ, _≤ℤ_, _<ℤ_, leZ-yes, ltZ-yes}
 use Rattle.common.proofs.Tests.{both-true}
@@ -67,6 +67,13 @@ pub greater-zero : (z : ℤ) → greater (pos 0) z ≡ pos (above z)
 greater-zero (pos n) = rw (leb·zero n)
 greater-zero (negsuc n) = refl
 
+pub false-leZ : {a b : ℤ} → b <ℤ a → leZ a b ≡ false
+false-leZ {a} {b} h = by (leZ a b) refl
+  where
+    by : (c : Bool) → leZ a b ≡ c → c ≡ false
+    by true e = let l = leZ-true {a = a} {b = b} e in absurd (omega (arith, whole))
+    by false e = refl
+
 pub false-ltZ : {a b : ℤ} → b ≤ℤ a → ltZ a b ≡ false
 false-ltZ {a} {b} h = by (ltZ a b) refl
   where
@@ -110,3 +117,29 @@ module _ (s f b o d t : ℕ) where
           let same-test : eqZ (pos s) u ≡ true = subst (λ z. eqZ (pos s) z ≡ true) p (eqZ-refl (pos s)) in
           let clash : _≡_ {A = ℕ} 0 1 = cc in
           omega arith))
+
+-- ---- a test of whole numbers as one of natural numbers
+pub leZ-leb : (a b : ℤ) (m n : ℕ) → (a ≤ℤ b → m ≤ n) → (m ≤ n → a ≤ℤ b) → leZ a b ≡ leb m n
+leZ-leb a b m n f g = by (decLe m n)
+  where
+    never : ¬ (m ≤ n) → (c : Bool) → leZ a b ≡ c → c ≡ false
+    never h true e = absurd (h (f (leZ-true e)))
+    never h false e = refl
+
+    by : Dec (m ≤ n) → leZ a b ≡ leb m n
+    by (yes h) = true-leZ (g h) ∙ sym (le-leb m n h)
+    by (no h) = never h (leZ a b) refl ∙ sym (lt-leb m n (omega arith))
+
+-- low ≤ s + p ≤ size − h
+pub between-is : (low s size h : ℕ) (p : ℤ)
+    → within (pos low) (pos s +ℤ p) (pos size -ℤ pos h) ≡ leb (low + below p) (s + above p) && leb (s + above p + h) (size + below p)
+between-is low s size h p =
+    rw (
+      leZ-leb (pos low) (pos s +ℤ p) (low + below p) (s + above p) (λ k. omega (arith, whole, sum (pos s) p)) (λ k. omega (arith, whole, sum (pos s) p)),
+      leZ-leb (pos s +ℤ p) (pos size -ℤ pos h) (s + above p + h) (size + below p) (λ k. omega (arith, whole, sum (pos s) p, less (pos size) (pos h))) (λ k. omega (arith, whole, sum (pos s) p, less (pos size) (pos h))),
+    )
+
+-- 0 ≤ z ≤ most
+pub up-to-is : (z : ℤ) (most : ℕ) → within (pos 0) z (pos most) ≡ eqb (below z) 0 && leb (above z) most
+up-to-is (pos n) most = rw (leb·zero n)
+up-to-is (negsuc n) most = rw (ne-eqb (suc n) 0 (λ e. omega arith))
