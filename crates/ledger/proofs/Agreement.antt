@@ -25,7 +25,7 @@ use Rattle.ledger_record.specs.Opening.{openingCauses}
 use Rattle.ledger_record.specs.Rule.{totalsRule, stateRule, recordRule}
 use Rattle.ledger_record.specs.declared.Record.{Record}
 use Rattle.ledger_record.proofs.Openings.{Fits, opening-fits}
-use Rattle.ledger.specs.Calls.{Closing, newState, unusable, settles, closedRecord, low, high}
+use Rattle.ledger.specs.Calls.{Closing, newState, unusable, settles, closedRecord, recordClosed, low, high}
 use Rattle.ledger.specs.Calls as calls
 use Rattle.ledger.specs.Promise.{History, Battery, extend, bounds, startAfter, stateAfter, NoCause, total, battery, entriesAfter, recordAfter}
 use Rattle.ledger.proofs.Eight.{eight-sum}
@@ -182,7 +182,7 @@ module _ (t : Terms) (curves : Curves) (size first : ℕ) (no-number : clear (op
     settles-are c = rw state-is
 
     -- ---- a closing that is carried out gives the record of the history with it
-    pub closed-is : (c : Closing) → NoCause b h c → closedRecord r (low r c) (high r c) c ≡ recordAfter t curves size first (extend h c)
+    pub closed-is : (c : Closing) → NoCause b h c → recordClosed r c ≡ recordAfter t curves size first (extend h c)
     unfolding closedRecord recordAfter
     closed-is c o =
         λ i.

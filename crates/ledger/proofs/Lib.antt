@@ -1,4 +1,5 @@
 pub mod Agreement
+pub mod Closings
 pub mod Directions
 pub mod Eight
 pub mod Entries

@@ -22,7 +22,7 @@ use Rattle.energy.proofs.Laws.{still-good, still-low, still-high}
 use Rattle.ledger_record.specs.Opening.{openingCauses, firstRecord, opening}
 use Rattle.ledger_record.specs.declared.Record.{Record}
 use Rattle.ledger_record.proofs.Openings.{Fits, opening-fits}
-use Rattle.ledger.specs.Calls.{Closing, newState, unusable, checking, proposing, closingCauses, closing, closedRecord, settles, low, high}
+use Rattle.ledger.specs.Calls.{Closing, newState, unusable, checking, proposing, closingCauses, closing, recordClosed, settles, low, high}
 use Rattle.ledger.specs.Calls as calls
 use Rattle.ledger.specs.Promise.{Call, check, propose, close, after, run, Gives, History, done, carriedOut, extend, Battery, NoCause, Open, Promise, battery, stateAfter, entriesAfter, recordAfter, Demand3}
 use Rattle.ledger.proofs.History.{Opened, Still, Passes, accepts, proposal, settled, first-passes, next-passes, no-cause, no-cause-accepts, no-cause-settled, proposal-nearest, safe, refused-exactly, refused-fails}
@@ -92,14 +92,14 @@ module _ (t : Terms) (curves : Curves) (size first : ℕ) (no-number : clear (op
         let w = first-given 10 (unusable r) [] (calls.proposal r) refl in
         (λ e. eight-is .0 (w .0 e), λ e. w .1 (eight-is .1 e))
     eight (close c) =
-        let w = first-given 10 (unusable r) (drop 1 (closingCauses r c)) (closedRecord r (low r c) (high r c) c) refl in
+        let w = first-given 10 (unusable r) (drop 1 (closingCauses r c)) (recordClosed r c) refl in
         (λ e. eight-is .0 (w .0 e), λ e. w .1 (eight-is .1 e))
 
     -- ---- a closing is carried out exactly when none of its causes holds
     given-exactly : (c : Closing) → isGiven (closing r c)
         ≡ not (eqb (length h) 8) && (not (not (accepts b h (c .purchase))) && (not (not (goodReadings (c .readings))) && (not (not (settled b h c)) && true)))
     unfolding closing
-    given-exactly c = given-is (closingCauses r c) (closedRecord r (low r c) (high r c) c) ∙ rw (usable, accepting (c .purchase), settling c)
+    given-exactly c = given-is (closingCauses r c) (recordClosed r c) ∙ rw (usable, accepting (c .purchase), settling c)
 
     carried-exactly : (c : Closing) → isGiven (closing r c) ≡ true ↔ NoCause b h c
     carried-exactly c = (
@@ -187,10 +187,10 @@ module _ (t : Terms) (curves : Curves) (size first : ℕ) (no-number : clear (op
   no-more {r} {h} a = rw (append-nil h) a
 
   -- a closing leaves the closed record where it is carried out
-  left-is : (c : Closing) (r : Record) → orBlank r (closing r c) ≡ cond (isGiven (closing r c)) (closedRecord r (low r c) (high r c) c) r
+  left-is : (c : Closing) (r : Record) → orBlank r (closing r c) ≡ cond (isGiven (closing r c)) (recordClosed r c) r
   unfolding closing
   left-is c r =
-      let new = closedRecord r (low r c) (high r c) c in
+      let new = recordClosed r c in
       orBlank-is r (closingCauses r c) new ∙ ap (λ (g : Bool). cond g new r) (sym (given-is (closingCauses r c) new))
 
   step : (call : Call) (r : Record) (h : History) → Agrees r h → Agrees (after r call) (h ++ done r call)
@@ -198,14 +198,14 @@ module _ (t : Terms) (curves : Curves) (size first : ℕ) (no-number : clear (op
   step propose r h a = no-more a
   step (close c) r h a = rw (left-is c r) (by (isGiven (closing r c)) refl)
     where
-      by : (g : Bool) → isGiven (closing r c) ≡ g → Agrees (cond g (closedRecord r (low r c) (high r c) c) r) (h ++ cond g (c ∷ []) [])
+      by : (g : Bool) → isGiven (closing r c) ≡ g → Agrees (cond g (recordClosed r c) r) (h ++ cond g (c ∷ []) [])
       by false e = no-more a
       by true e =
           let o = carried-exactly a c .0 e in
           record {
             passes = next-passes b h c (a .passes) o;
             totals = totals-next t curves size first no-number h c (a .passes) (a .totals) o;
-            is-record = ap (λ (r : Record). closedRecord r (low r c) (high r c) c) (a .is-record) ∙ closed-is t curves size first no-number h (a .passes) c o;
+            is-record = ap (λ (r : Record). recordClosed r c) (a .is-record) ∙ closed-is t curves size first no-number h (a .passes) c o;
           }
 
   reaches : (calls : List Call) (r : Record) (h : History) → Agrees r h → Agrees (run r calls) (h ++ carriedOut r calls)

@@ -98,21 +98,21 @@ closedEntries q x closed bound =
     }
 
 -- one period more is closed; purchases above 0 are bought, those below 0 sold
-unfoldable pub closedRecord : Record → ℕ → ℕ → Closing → Record
-closedRecord r low high c =
+unfoldable pub closedRecord : Record → ℕ → ℕ → ℕ → ℤ → ℤ → ℤ → Record
+closedRecord r low high new p delivered taken =
     record {
       terms = r .terms;
       curves = r .curves;
       size = r .size;
       first = r .first;
-      state = above (newState (pos (r .state)) c);
+      state = new;
       closed = r .closed + 1;
       low = closedEntries (r .terms .low) (r .low) (r .closed) low;
       high = closedEntries (r .terms .high) (r .high) (r .closed) high;
-      bought = r .bought + above (c .purchase);
-      sold = r .sold + below (c .purchase);
-      delivered = r .delivered + above (c .delivered);
-      taken = r .taken + above (c .taken);
+      bought = r .bought + above p;
+      sold = r .sold + below p;
+      delivered = r .delivered + above delivered;
+      taken = r .taken + above taken;
     }
 
 module _ (r : Record) (c : Closing) where
@@ -122,6 +122,9 @@ module _ (r : Record) (c : Closing) where
 
   abbrev pub high : ℕ
   high = highBound (r .terms .high) (r .curves) (c .readings)
+
+  abbrev pub recordClosed : Record
+  recordClosed = closedRecord r low high (above (newState (pos (r .state)) c)) (c .purchase) (c .delivered) (c .taken)
 
   -- closing checks 10, 8, 6, 9
   abbrev pub closingCauses : List Cause
@@ -133,7 +136,7 @@ module _ (r : Record) (c : Closing) where
       ∷ []
 
   unfoldable pub closing : Answer Record
-  closing = checked closingCauses (closedRecord r low high c)
+  closing = checked closingCauses recordClosed
 
 -- ---- the number and values of each case of the code's answers
 

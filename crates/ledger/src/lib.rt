@@ -209,9 +209,101 @@ fn closed_entries(q: Quantities, entries: Entries, closed: u32, bound: u32) -> E
     }
 }
 
+// A total with what a closing adds to it.
 fn total(a: u32, b: u64) -> u32
     requires { ⌜ a + b < 2 ^ 32 ⌝ }
     ensures { λ r. ⌜ r ≡ a + b ⌝ }
 {
     a + b as u32
+}
+
+// The record with one more period closed.
+fn closed_record(
+    given: Record,
+    low: u32,
+    high: u32,
+    new: u32,
+    purchase: i64,
+    delivered: i64,
+    taken: i64,
+) -> Record
+    requires { ⌜ (given .closed < 8) × (given .bought + above purchase < 2 ^ 32) × (given .sold + below purchase < 2 ^ 32) × (given .delivered + above delivered < 2 ^ 32) × (given .taken + above taken < 2 ^ 32) ⌝ }
+    ensures { λ r. ⌜ r ≡ closedRecord given low high new purchase delivered taken ⌝ }
+{
+    let t = given.terms;
+    let curves = given.curves;
+    let low_q = t.low;
+    let high_q = t.high;
+    let low_entries = given.low;
+    let high_entries = given.high;
+    let closed = given.closed;
+    Record {
+        terms: t,
+        curves,
+        size: given.size,
+        first: given.first,
+        state: new,
+        closed: closed + 1,
+        low: closed_entries(low_q, low_entries, closed, low),
+        high: closed_entries(high_q, high_entries, closed, high),
+        bought: total(given.bought, signed::above_zero(purchase)),
+        sold: total(given.sold, signed::below_zero(purchase)),
+        delivered: total(given.delivered, signed::above_zero(delivered)),
+        taken: total(given.taken, signed::above_zero(taken)),
+    }
+}
+
+// Closes a period: refusals 10, 8, 6, 9; the record stays as it was beside a refusal.
+pub fn close_period(
+    given: Record,
+    purchase: i64,
+    readings: &[u16],
+    delivered: i64,
+    taken: i64,
+) -> Closed
+    ensures { λ r. ⌜ (closedOf r ≡ closing given (record { purchase = purchase; readings = now (readings .entry); delivered = delivered; taken = taken })) × (r .«record» ≡ orBlank given (closing given (record { purchase = purchase; readings = now (readings .entry); delivered = delivered; taken = taken }))) ⌝ }
+{
+    if is_unusable(given) {
+        return Closed {
+            answer: CloseAnswer::Unusable,
+            record: given,
+        };
+    }
+    if !is_accepted(given, purchase) {
+        return Closed {
+            answer: CloseAnswer::Purchase,
+            record: given,
+        };
+    }
+    let t = given.terms;
+    let curves = given.curves;
+    let low_q = t.low;
+    let high_q = t.high;
+    let bounds = energy::period::period_energy(low_q, high_q, curves, readings);
+    let PeriodEnergy::Bounds { low, high } = bounds else {
+        return Closed {
+            answer: CloseAnswer::Readings,
+            record: given,
+        };
+    };
+    let settled = settle(
+        given.state,
+        given.size,
+        low,
+        high,
+        purchase,
+        delivered,
+        taken,
+    );
+    let Settled::To(new) = settled else {
+        return Closed {
+            answer: CloseAnswer::Energy,
+            record: given,
+        };
+    };
+    let record = closed_record(given, low, high, new, purchase, delivered, taken);
+    Closed {
+        answer: CloseAnswer::Closed,
+        record,
+    }
 }
