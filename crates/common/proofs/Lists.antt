@@ -1,19 +1,29 @@
 -- Sums and tests over lists. Assumes nothing.
 use mathlib.Core.Path.{_≡_, refl, sym, _∙_}
-use mathlib.Core.Bool.{Bool, true, false, _||_, and-false}
+use mathlib.Core.Bool.{Bool, true, false, _&&_, _||_, and-assoc, and-false}
 use mathlib.Core.List.{List, [], _∷_, _++_, map}
 use Prim.Native.Nat.{ℕ, zero, suc, _+_, _*_, _≤_, _<_}
 use native.Mathlib.Nat.{mul-suc}
 use native.Mathlib.Numerals.{add-one}
 use native.Mathlib.Omega.{arith}
-use lib.ListN.{length, getD, drop, replicate, drop-of-length-le}
-use lib.Seq.{drop-cons}
+use lib.ListN.{length, getD, take, drop, replicate, drop-of-length-le}
+use lib.Seq.{take-suc, drop-cons}
 use Rattle.common.specs.Lists.{sum, every, some}
 
 pub sum-append : (ms ns : List ℕ) → sum (ms ++ ns) ≡ sum ms + sum ns
 unfolding sum
 sum-append [] ns = omega arith
 sum-append (m ∷ ms) ns = omega (arith, sum-append ms ns)
+
+pub sum-entries : (k : ℕ) (ns : List ℕ) → ((i : ℕ) → i < length ns → getD ns i 0 ≤ k) → sum ns ≤ k * length ns
+unfolding sum
+sum-entries k [] h = omega arith
+sum-entries k (n ∷ ns) h = omega (arith, h 0 (omega arith), sum-entries k ns (λ i l. h (suc i) (omega arith)), mul-suc k (length ns))
+
+-- a turn of a loop that sums a list
+pub sum-take : (ns : List ℕ) (i : ℕ) → i < length ns → sum (take (i + 1) ns) ≡ sum (take i ns) + getD ns i 0
+unfolding sum
+sum-take ns i h = rw (add-one i, take-suc ns i 0 h, sum-append) (omega arith)
 
 -- ---- a sum of f over a list
 module _ (f : ℕ → ℕ) where
@@ -34,6 +44,11 @@ module _ (f : ℕ → ℕ) where
 
 -- ---- a test of every entry, by the entries
 module _ {A : Type 0} (holds : A → Bool) where
+  pub every-append : (xs ys : List A) → every holds (xs ++ ys) ≡ every holds xs && every holds ys
+  unfolding every
+  every-append [] ys = refl
+  every-append (x ∷ xs) ys = rw (every-append xs ys) (sym (and-assoc (holds x) (every holds xs) (every holds ys)))
+
   pub every-same : (x : A) → holds x ≡ true → (n : ℕ) → every holds (replicate n x) ≡ true
   unfolding every
   every-same x h zero = refl

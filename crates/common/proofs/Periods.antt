@@ -1,5 +1,6 @@
--- A list that has f at each of the periods 1 to n: its entries, and how an array is filled with it. Assumes nothing.
+-- Lists and tests over the periods 1 to n: entries, and how an array is filled. Assumes nothing.
 use mathlib.Core.Path.{_≡_, refl, sym, ap, _∙_}
+use mathlib.Core.Bool.{Bool, true, _&&_, and-true}
 use mathlib.Core.List.{List, [], _∷_, _++_, map, map-append}
 use Prim.Native.Nat.{ℕ, zero, suc, _+_, _<_}
 use native.Mathlib.Numerals.{add-one}
@@ -7,14 +8,17 @@ use native.Mathlib.Omega.{arith}
 use native.Mathlib.Decide.{decLt}
 use lib.ListN.{length, getD, take, set, length-append, List·getD-append}
 use lib.Seq.{take-all, take-suc-set, getD-at}
+use Rattle.common.specs.Lists.{every}
 use Rattle.common.specs.Periods.{periodsTo}
+use Rattle.common.proofs.Lists.{every-append}
+use Rattle.common.proofs.Tests.{both-true}
 
 module _ {A : Type 0} (f : ℕ → A) where
   pub map-next : (n : ℕ) → map f (periodsTo (suc n)) ≡ map f (periodsTo n) ++ (f (suc n) ∷ [])
   unfolding periodsTo
   map-next n = rw map-append
 
-  length-periods : (n : ℕ) → length (map f (periodsTo n)) ≡ n
+  pub length-periods : (n : ℕ) → length (map f (periodsTo n)) ≡ n
   unfolding periodsTo
   length-periods zero = refl
   length-periods (suc n) = rw (map-append, length-append, length-periods n) (add-one n)
@@ -35,3 +39,31 @@ module _ {A : Type 0} (f : ℕ → A) where
 
     pub filled-all : (n : ℕ) → length xs ≡ n → i ≡ n → take i xs ≡ map f (periodsTo i) → xs ≡ map f (periodsTo n)
     filled-all n long end filled = sym (take-all i xs (omega arith)) ∙ filled ∙ ap (λ (k : ℕ). map f (periodsTo k)) end
+
+-- what f is at the periods 1 to n alone matters
+pub map-local : {A : Type 0} (f g : ℕ → A) (n : ℕ) → ((k : ℕ) → k < n → f (suc k) ≡ g (suc k)) → map f (periodsTo n) ≡ map g (periodsTo n)
+unfolding periodsTo
+map-local f g zero h = refl
+map-local f g (suc n) h = map-next f n ∙ rw (map-local f g n (λ k l. h k (omega arith)), h n (omega arith)) (sym (map-next g n))
+
+-- ---- a test of every period
+module _ (holds : ℕ → Bool) where
+  pub every-next : (n : ℕ) → every holds (periodsTo (suc n)) ≡ every holds (periodsTo n) && holds (suc n)
+  unfolding periodsTo every
+  every-next n = every-append holds (periodsTo n) (suc n ∷ []) ∙ ap (λ (b : Bool). every holds (periodsTo n) && b) (and-true (holds (suc n)))
+
+  pub every-period : (n : ℕ) → ((k : ℕ) → k < n → holds (suc k) ≡ true) → every holds (periodsTo n) ≡ true
+  unfolding periodsTo every
+  every-period zero h = refl
+  every-period (suc n) h = every-next n ∙ rw (every-period n (λ k l. h k (omega arith)), h n (omega arith))
+
+  pub period-holds : (n k : ℕ) → every holds (periodsTo n) ≡ true → k < n → holds (suc k) ≡ true
+  period-holds zero k e l = absurd (omega arith)
+  period-holds (suc n) k e l = by (decLt k n) (λ m. period-holds n k (w .0) m)
+    where
+      w : (every holds (periodsTo n) ≡ true) × (holds (suc n) ≡ true)
+      w = both-true (every holds (periodsTo n)) (holds (suc n)) (sym (every-next n) ∙ e)
+
+      by : Dec (k < n) → (k < n → holds (suc k) ≡ true) → holds (suc k) ≡ true
+      by (yes m) rest = rest m
+      by (no m) rest = let p : k ≡ n = omega arith in rw p (w .1)

@@ -1,5 +1,5 @@
 -- Paper 01, "When a call declines": what a call answers, from its causes in the order in which it checks them. Assumes nothing.
-use mathlib.Core.Bool.{Bool, cond}
+use mathlib.Core.Bool.{Bool, true, false, not, cond, _&&_}
 use mathlib.Core.List.{List, [], _∷_}
 use Prim.Native.Nat.{ℕ}
 
@@ -7,6 +7,10 @@ use Prim.Native.Nat.{ℕ}
 pub data Answer (A : Type 0) : Type 0 where
   refused : ℕ → Answer A
   given : A → Answer A
+
+abbrev pub isGiven : {A : Type 0} → Answer A → Bool
+isGiven (refused number) = false
+isGiven (given a) = true
 
 -- a refusal's number, and whether its cause holds
 pub record Cause : Type 0 where
@@ -20,6 +24,11 @@ cause number holds = record { number = number; holds = holds }
 abbrev pub checked : {A : Type 0} → List Cause → A → Answer A
 checked [] a = given a
 checked (c ∷ causes) a = cond (c .holds) (refused (c .number)) (checked causes a)
+
+-- none of the causes holds
+abbrev pub clear : List Cause → Bool
+clear [] = true
+clear (c ∷ causes) = not (c .holds) && clear causes
 
 -- for a call that hands a value back in any case: what it gives, or `blank` beside a refusal
 abbrev pub orBlank : {A : Type 0} → A → Answer A → A

@@ -1,10 +1,12 @@
 -- What paper 01 says of every requirement, over any bounds and any number of periods. Assumes nothing.
 use mathlib.Core.Path.{_≡_, refl}
+use mathlib.Core.Bool.{Bool, true, false, cond}
 use mathlib.Core.List.{map}
 use Prim.Native.Nat.{ℕ, zero, suc, _+_, _-_, _≤_, _<_}
 use native.Mathlib.Omega.{arith}
 use native.Mathlib.Decide.{decLe}
 use borrow.Author.Tests.{le-leb, lt-leb}
+use lib.Dec.{leb}
 use lib.IntN.{pos, _-ℤ_}
 use lib.Signed.{_≤ℤ_}
 use Rattle.common.specs.Lists.{sum}
@@ -25,6 +27,15 @@ module _ (REV ER : ℕ) (e : ℕ → ℕ) where
   back-most i =
       rw (start-is REV ER e i)
       (omega (arith, whole, back-le ER e i, less (pos REV) (pos (shortfall ER e i)), less (pos REV) (pos REV -ℤ pos (shortfall ER e i))))
+
+-- no more comes back in a period than ER
+pub back-recovery : (ER : ℕ) (e : ℕ → ℕ) (i : ℕ) → back ER e i ≤ ER
+unfolding back sched
+back-recovery ER e i = by (leb i 4)
+  where
+    by : (c : Bool) → cond c 0 (sched ER e (i - 4)) ≤ ER
+    by true = omega arith
+    by false = omega arith
 
 -- after any periods, all e equal all sched plus left
 module _ (ER : ℕ) (e : ℕ → ℕ) where

@@ -1,3 +1,4 @@
 pub mod Shortfall
 pub mod Laws
+pub mod Need
 pub mod Filling

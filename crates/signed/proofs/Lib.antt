@@ -1,2 +1,4 @@
+pub mod Bits
+pub mod Orders
 pub mod Signs
 pub mod Whole

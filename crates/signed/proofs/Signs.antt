@@ -3,7 +3,7 @@
 -- Assumes nothing.
 use mathlib.Core.Path.{_≡_, refl, sym, subst, _∙_}
 use mathlib.Core.Bool.{Bool, true, false}
-use Prim.Native.Nat.{ℕ, suc, _-_, _≤_, _<_, _^_, min}
+use Prim.Native.Nat.{ℕ, suc, _+_, _-_, _≤_, _<_, _^_, min}
 use native.Mathlib.Omega.{arith}
 use native.Mathlib.Decide.{decLt, decLe}
 use borrow.Author.Tests.{ltb-true, le-leb, lt-leb}
@@ -13,7 +13,7 @@ use lib.Signed.{ltZ, leZ, mag}
 use mir.Syntax.{w64}
 use mir.Val.{SFits, toZ, ofZ}
 use mir.Facts.{toZ-ofZ}
-use Rattle.signed.specs.Sign.{above, nearest}
+use Rattle.signed.specs.Sign.{above, below, nearest}
 use Rattle.signed.proofs.Whole.{one-sided, less, same}
 
 -- ---- after `if z < 0`, by the test's outcome
@@ -31,6 +31,22 @@ negative {z} f e = neg z (rw (toZ-ofZ f) at e)
 
 pub not-negative : {z : ℤ} → SFits w64 z → ltZ (toZ w64 (ofZ w64 z)) (pos 0) ≡ false → z ≡ pos (mag z)
 not-negative {z} f e = not-neg z (rw (toZ-ofZ f) at e)
+
+-- ---- the parts of an `i64`
+
+pub above-fits : {z : ℤ} → SFits w64 z → above z < 2 ^ 63
+above-fits {z} f = at z (f .sfits)
+  where
+    at : (z : ℤ) → mag z < 2 ^ 63 → above z < 2 ^ 63
+    at (pos n) h = h
+    at (negsuc n) h = omega arith
+
+pub below-fits : {z : ℤ} → SFits w64 z → below z ≤ 2 ^ 63
+below-fits {z} f = at z (f .sfits)
+  where
+    at : (z : ℤ) → mag z < 2 ^ 63 → below z ≤ 2 ^ 63
+    at (pos n) h = omega arith
+    at (negsuc n) h = h
 
 -- −1 − z of a negative z, and −1 − n
 pub minus-one-minus : (n : ℕ) → negsuc 0 -ℤ negsuc n ≡ pos n
@@ -67,3 +83,8 @@ module _ (a b : ℕ) where
       by : Dec (a < b) → nearest (pos a -ℤ pos b) ≡ pos a -ℤ pos b
       by (yes h) = let p : min (b - suc a) (2 ^ 63 - 1) ≡ b - suc a = omega arith in rw (sub-neg h, p)
       by (no h) = let p : min (a - b) (2 ^ 63 - 1) ≡ a - b = omega arith in rw (sub-pos (omega arith), p)
+
+pub less-less : (a b c : ℕ) → pos a -ℤ pos b -ℤ pos c ≡ pos a -ℤ pos (c + b)
+less-less a b c =
+    let y = pos a -ℤ pos b in
+    same (y -ℤ pos c) (pos a -ℤ pos (c + b)) (omega (arith, less (pos a) (pos b), less y (pos c), less (pos a) (pos (c + b))))

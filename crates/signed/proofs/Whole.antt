@@ -6,13 +6,17 @@ use mathlib.Core.Bool.{Bool, true, false, not, cond}
 use Prim.Native.Nat.{ℕ, zero, suc, _+_, _-_, _≤_, _<_, min}
 use native.Mathlib.Omega.{arith}
 use lib.Dec.{T, ltb, ltb→lt, nltb→le, leb→le, le→leb, lt→ltb}
-use lib.IntN.{ℤ, pos, negsuc, negℤ, subℕ, _+ℤ_, _-ℤ_}
+use lib.IntN.{ℤ, pos, negsuc, negℤ, natAbs, subℕ, _+ℤ_, _-ℤ_}
 use lib.Signed.{leZ, ltZ, _≤ℤ_, _<ℤ_}
 use Rattle.signed.specs.Sign.{above, below}
 
 pub one-sided : (z : ℤ) → min (above z) (below z) ≡ 0
 one-sided (pos n) = omega arith
 one-sided (negsuc n) = omega arith
+
+pub abs-is : (z : ℤ) → natAbs z ≡ above z + below z
+abs-is (pos n) = omega arith
+abs-is (negsuc n) = omega arith
 
 -- ---- sums and differences
 
@@ -39,6 +43,9 @@ below-neg : (z : ℤ) → below (negℤ z) ≡ above z
 below-neg (pos zero) = refl
 below-neg (pos (suc n)) = refl
 below-neg (negsuc n) = refl
+
+pub neg : (z : ℤ) → above (negℤ z) + above z ≡ below z + below (negℤ z)
+neg z = omega (arith, above-neg z, below-neg z)
 
 pub less : (a b : ℤ) → above (a -ℤ b) + (below a + above b) ≡ above a + below b + below (a -ℤ b)
 less a b = omega (arith, sum a (negℤ b), above-neg b, below-neg b)

@@ -1,5 +1,5 @@
 -- Whole numbers by their sign, as the code splits and makes them. Assumes nothing.
-use mathlib.Core.Bool.{Bool, false, _&&_}
+use mathlib.Core.Bool.{Bool, false, cond, _&&_}
 use Prim.Native.Nat.{ℕ, suc, _-_, _^_, min}
 use lib.Dec.{eqb}
 use lib.IntN.{ℤ, pos, negsuc}
@@ -25,6 +25,10 @@ eqZ (pos m) (pos n) = eqb m n
 eqZ (pos m) (negsuc n) = false
 eqZ (negsuc m) (pos n) = false
 eqZ (negsuc m) (negsuc n) = eqb m n
+
+-- the greater of two numbers
+abbrev pub greater : ℤ → ℤ → ℤ
+greater a b = cond (leZ a b) b a
 
 -- low ≤ z ≤ high
 abbrev pub within : ℤ → ℤ → ℤ → Bool

@@ -102,7 +102,7 @@ fn limit_broken(limit: i64, power: u64) -> bool
     (0 < signed::below_zero(limit)) | (2_000_000 < most) | (most < power)
 }
 
-fn limits_broken(t: Terms) -> bool
+pub fn limits_broken(t: Terms) -> bool
     ensures { λ r. ⌜ r ≡ limitsBroken t ⌝ }
 {
     let low = t.low;

@@ -1,0 +1,59 @@
+-- A call's answer from its causes, read as facts. Assumes nothing.
+use mathlib.Core.Path.{_≡_, refl, sym, ap, _∙_}
+use mathlib.Core.Logic.{_↔_, _≢_}
+use mathlib.Core.Bool.{Bool, true, false, not, cond, _&&_}
+use mathlib.Core.List.{List, [], _∷_}
+use Prim.Native.Nat.{ℕ}
+use native.Mathlib.Omega.{arith}
+use borrow.Author.Tests.{eqb-false, not-true}
+use lib.Dec.{eqb}
+use Rattle.common.specs.Answer.{Answer, refused, given, isGiven, Cause, cause, checked, clear, orBlank}
+use Rattle.common.specs.Lists.{every}
+use Rattle.common.proofs.Tests.{both-true}
+
+module _ {A : Type 0} where
+  -- a value is given exactly where no cause holds
+  pub given-is : (causes : List Cause) (a : A) → isGiven (checked causes a) ≡ clear causes
+  given-is [] a = refl
+  given-is (c ∷ causes) a = by (c .holds) (given-is causes a)
+    where
+      by : (h : Bool) → isGiven (checked causes a) ≡ clear causes → isGiven (cond h (refused (c .number)) (checked causes a)) ≡ not h && clear causes
+      by true rest = refl
+      by false rest = rest
+
+  pub clear-given : (causes : List Cause) (a : A) → clear causes ≡ true → checked causes a ≡ given a
+  clear-given [] a e = refl
+  clear-given (c ∷ causes) a e =
+      let w = both-true (not (c .holds)) (clear causes) e in
+      rw (not-true (c .holds) (w .0)) (clear-given causes a (w .1))
+
+  pub given-clear : (causes : List Cause) (a b : A) → checked causes a ≡ given b → clear causes ≡ true
+  given-clear causes a b e = sym (given-is causes a) ∙ ap isGiven e
+
+  -- what is handed back beside the answer
+  pub orBlank-is : (blank : A) (causes : List Cause) (a : A) → orBlank blank (checked causes a) ≡ cond (clear causes) a blank
+  orBlank-is blank [] a = refl
+  orBlank-is blank (c ∷ causes) a = by (c .holds) (orBlank-is blank causes a)
+    where
+      by : (h : Bool) → orBlank blank (checked causes a) ≡ cond (clear causes) a blank
+          → orBlank blank (cond h (refused (c .number)) (checked causes a)) ≡ cond (not h && clear causes) a blank
+      by true rest = refl
+      by false rest = rest
+
+  -- a number that no cause has is not given
+  other : (k : ℕ) (causes : List Cause) (a : A) → every (λ (c : Cause). not (eqb (c .number) k)) causes ≡ true → checked causes a ≢ refused k
+  unfolding every
+  other k [] a e = λ g. let o : _≡_ {A = ℕ} 0 1 = cc in omega arith
+  other k (c ∷ causes) a e =
+      let w = both-true (not (eqb (c .number) k)) (every (λ (c : Cause). not (eqb (c .number) k)) causes) e in
+      by (c .holds) (eqb-false (c .number) k (not-true (eqb (c .number) k) (w .0))) (other k causes a (w .1))
+    where
+      by : (h : Bool) → c .number ≢ k → checked causes a ≢ refused k → cond h (refused (c .number)) (checked causes a) ≢ refused k
+      by true n rest g = n (cc)
+      by false n rest g = rest g
+
+  -- the first cause's number is given exactly where that cause holds
+  pub first-given : (k : ℕ) (h : Bool) (causes : List Cause) (a : A) → every (λ (c : Cause). not (eqb (c .number) k)) causes ≡ true
+      → checked (cause k h ∷ causes) a ≡ refused k ↔ h ≡ true
+  first-given k true causes a e = (λ g. refl, λ g. refl)
+  first-given k false causes a e = (λ g. absurd (other k causes a e g), λ g. let o : _≡_ {A = ℕ} 0 1 = cc in absurd (omega arith))

@@ -1,0 +1,10 @@
+pub mod Agreement
+pub mod Closings
+pub mod Directions
+pub mod Eight
+pub mod Entries
+pub mod History
+pub mod NextRow
+pub mod Promise
+pub mod Settling
+pub mod Usable

@@ -1,0 +1,239 @@
+-- Demand 3 of paper 01: `demand-3`, the statement `Demand3` of specs/Promise.antt for every opening and every list of calls.
+-- The invariant of a list of calls is that the record agrees with the closings carried out. Assumes nothing.
+use mathlib.Core.Path.{_≡_, refl, sym, ap, _∙_}
+use mathlib.Core.Logic.{_↔_, _⊎_, inl, inr}
+use mathlib.Core.Bool.{Bool, true, false, not, cond, _&&_}
+use mathlib.Core.List.{List, [], _∷_, _++_, append-assoc, append-nil}
+use Prim.Native.Nat.{ℕ, _<_}
+use native.Mathlib.Omega.{arith}
+use borrow.Author.Tests.{eqb-true, eqb-false, eq-eqb, ne-eqb, not-true, not-false}
+use lib.Dec.{eqb}
+use lib.IntN.{ℤ, pos}
+use lib.ListN.{length, drop, replicate}
+use Rattle.common.specs.Answer.{Answer, refused, given, isGiven, Cause, cause, checked, clear, orBlank}
+use Rattle.common.specs.Lists.{sum, every}
+use Rattle.common.specs.Periods.{periodsTo}
+use Rattle.common.proofs.Answers.{given-is, clear-given, given-clear, orBlank-is, first-given}
+use Rattle.common.proofs.Tests.{both-true}
+use Rattle.terms.specs.declared.Terms.{Terms}
+use Rattle.energy.specs.Period.{goodReadings}
+use Rattle.energy.specs.declared.curve.Curves.{Curves}
+use Rattle.energy.proofs.Laws.{still-good, still-low, still-high}
+use Rattle.ledger_record.specs.Opening.{openingCauses, firstRecord, opening}
+use Rattle.ledger_record.specs.declared.Record.{Record}
+use Rattle.ledger_record.proofs.Openings.{Fits, opening-fits}
+use Rattle.ledger.specs.Calls.{Closing, newState, unusable, checking, proposing, closingCauses, closing, recordClosed, settles, low, high}
+use Rattle.ledger.specs.Calls as calls
+use Rattle.ledger.specs.Promise.{Call, check, propose, close, after, run, Gives, History, done, carriedOut, extend, Battery, NoCause, Open, Promise, battery, stateAfter, entriesAfter, recordAfter, Demand3}
+use Rattle.ledger.proofs.History.{Opened, Still, Passes, accepts, proposal, settled, first-passes, next-passes, no-cause, no-cause-accepts, no-cause-settled, proposal-nearest, safe, refused-exactly, refused-fails}
+use Rattle.ledger.proofs.Agreement.{Totals, no-totals, totals-next, rule-holds, usable-is, accepts-are, proposal-is, settles-are, closed-is}
+
+not-not : (a : Bool) → not (not a) ≡ true → a ≡ true
+not-not true e = refl
+not-not false e = e
+
+-- the causes of a closing, of which none holds
+four : (u a g s : Bool) → not u && (not (not a) && (not (not g) && (not (not s) && true))) ≡ true → (u ≡ false) × (a ≡ true) × (g ≡ true) × (s ≡ true)
+four u a g s e =
+    let x = both-true (not u) (not (not a) && (not (not g) && (not (not s) && true))) e in
+    let y = both-true (not (not a)) (not (not g) && (not (not s) && true)) (x .1) in
+    let z = both-true (not (not g)) (not (not s) && true) (y .1) in
+    let w = both-true (not (not s)) true (z .1) in
+    (not-true u (x .0), not-not a (y .0), not-not g (z .0), not-not s (w .0))
+
+same-given : {A : Type 0} {x y : A} → given x ≡ given y → x ≡ y
+same-given e = cc
+
+module _ (t : Terms) (curves : Curves) (size first : ℕ) (no-number : clear (openingCauses t curves size first) ≡ true) where
+  abbrev b : Battery
+  b = battery t curves size first
+
+  fits : Fits t curves size first
+  fits = opening-fits t curves size first no-number
+
+  opened : Opened b
+  opened = record { fits = fits .size-least; low = fits .first-least; high = fits .first-most }
+
+  -- 3,600 readings of 50,000
+  still : Still b
+  still = record {
+    readings = replicate 3600 50000;
+    good = still-good;
+    low = still-low (t .low) curves (fits .curves-hold);
+    high = still-high (t .high) curves (fits .curves-hold);
+  }
+
+  record Agrees (r : Record) (h : History) : Type 0 where
+    passes : Passes b h
+    totals : Totals t curves size first no-number h
+    is-record : r ≡ recordAfter t curves size first h
+
+  module _ {r : Record} {h : History} (a : Agrees r h) where
+    -- ---- the tests of a call on the record are those that the list gives
+    usable : unusable r ≡ eqb (length h) 8
+    usable = ap unusable (a .is-record) ∙ usable-is t curves size first no-number h (a .passes) (a .totals)
+
+    accepting : (p : ℤ) → calls.accepts r p ≡ accepts b h p
+    accepting p = ap (λ (r : Record). calls.accepts r p) (a .is-record) ∙ accepts-are t curves size first no-number h (a .passes) p
+
+    settling : (c : Closing) → settles (low r c) (high r c) (r .size) (c .delivered) (c .taken) (newState (pos (r .state)) c) ≡ settled b h c
+    settling c = ap (λ (r : Record). settles (low r c) (high r c) (r .size) (c .delivered) (c .taken) (newState (pos (r .state)) c)) (a .is-record) ∙ settles-are t curves size first no-number h (a .passes) c
+
+    -- ---- 10 exactly when eight closings are carried out
+    eight-is : unusable r ≡ true ↔ length h ≡ 8
+    eight-is = (λ e. eqb-true (length h) 8 (sym usable ∙ e), λ e. usable ∙ eq-eqb (length h) 8 e)
+
+    eight : (call : Call) → Gives r call 10 ↔ length h ≡ 8
+    unfolding checking proposing closing every
+    eight (check p) =
+        let w = first-given 10 (unusable r) (cause 8 (not (calls.accepts r p)) ∷ []) tt refl in
+        (λ e. eight-is .0 (w .0 e), λ e. w .1 (eight-is .1 e))
+    eight propose =
+        let w = first-given 10 (unusable r) [] (calls.proposal r) refl in
+        (λ e. eight-is .0 (w .0 e), λ e. w .1 (eight-is .1 e))
+    eight (close c) =
+        let w = first-given 10 (unusable r) (drop 1 (closingCauses r c)) (recordClosed r c) refl in
+        (λ e. eight-is .0 (w .0 e), λ e. w .1 (eight-is .1 e))
+
+    -- ---- a closing is carried out exactly when none of its causes holds
+    given-exactly : (c : Closing) → isGiven (closing r c)
+        ≡ not (eqb (length h) 8) && (not (not (accepts b h (c .purchase))) && (not (not (goodReadings (c .readings))) && (not (not (settled b h c)) && true)))
+    unfolding closing
+    given-exactly c = given-is (closingCauses r c) (recordClosed r c) ∙ rw (usable, accepting (c .purchase), settling c)
+
+    carried-exactly : (c : Closing) → isGiven (closing r c) ≡ true ↔ NoCause b h c
+    carried-exactly c = (
+      λ e.
+          let w = four (eqb (length h) 8) (accepts b h (c .purchase)) (goodReadings (c .readings)) (settled b h c) (sym (given-exactly c) ∙ e) in
+          let n = eqb-false (length h) 8 (w .0) in
+          no-cause b h c (omega (arith, n, a .passes .eight)) (w .1) (w .2) (w .3),
+      λ o.
+          let n : eqb (length h) 8 ≡ false = ne-eqb (length h) 8 (λ e. omega (arith, o .before-eight)) in
+          given-exactly c ∙ rw (n, no-cause-accepts b h c o, o .good, no-cause-settled b h c o),
+    )
+
+    -- ---- a refused call leaves the record as it was
+    refused-leaves : (call : Call) (k : ℕ) → Gives r call k → after r call ≡ r
+    refused-leaves (check p) k e = refl
+    refused-leaves propose k e = refl
+    refused-leaves (close c) k e = ap (orBlank r) e
+
+    -- ---- before eight
+    module _ (before : length h < 8) where
+      is-usable : unusable r ≡ false
+      is-usable = usable ∙ ne-eqb (length h) 8 (λ e. omega arith)
+
+      accepted-exactly : (p : ℤ) → checking r p ≡ given tt ↔ accepts b h p ≡ true
+      unfolding checking
+      accepted-exactly p = (
+        λ e.
+            let w = given-clear (cause 10 (unusable r) ∷ cause 8 (not (calls.accepts r p)) ∷ []) tt tt e in
+            let x = both-true (not (unusable r)) (not (not (calls.accepts r p)) && true) w in
+            let y = both-true (not (not (calls.accepts r p))) true (x .1) in
+            sym (accepting p) ∙ not-not (calls.accepts r p) (y .0),
+        λ e. rw (is-usable, accepting p, e),
+      )
+
+      refused-is : (p : ℤ) → checking r p ≡ refused 8 ↔ accepts b h p ≡ false
+      unfolding checking every
+      refused-is p = rw (is-usable, accepting p) (λ e. not-true (accepts b h p) (w .0 e), λ e. w .1 (ap not e))
+        where
+          w : checked {A = Unit} (cause 8 (not (accepts b h p)) ∷ []) tt ≡ refused 8 ↔ not (accepts b h p) ≡ true
+          w = first-given 8 (not (accepts b h p)) [] tt refl
+
+      accepted-or-refused : (p : ℤ) → (checking r p ≡ given tt) ⊎ (checking r p ≡ refused 8)
+      accepted-or-refused p = by (accepts b h p) refl
+        where
+          by : (x : Bool) → accepts b h p ≡ x → (checking r p ≡ given tt) ⊎ (checking r p ≡ refused 8)
+          by true e = inl (accepted-exactly p .1 e)
+          by false e = inr (refused-is p .1 e)
+
+      proposes : proposing r ≡ given (proposal b h)
+      unfolding proposing
+      proposes = rw is-usable (ap given (ap calls.proposal (a .is-record) ∙ proposal-is t curves size first no-number h (a .passes)))
+
+      is-open : Open b h r
+      is-open =
+          let q = proposal-nearest b opened h (a .passes) in
+          record {
+            proposal = proposal b h;
+            proposes = proposes;
+            proposal-accepted = accepted-exactly (proposal b h) .1 (q .accepted);
+            proposal-least = q .least;
+            proposal-most = q .most;
+            proposal-nearest = λ p e. q .nearest p (accepted-exactly p .0 e);
+            accepted-or-refused = accepted-or-refused;
+            refused-exactly = λ p.
+                let w = refused-exactly b still h p in
+                (λ e. w .0 (refused-is p .0 e), λ f. refused-is p .1 (w .1 f));
+            accepted-passes = λ p e. safe b h p (accepted-exactly p .0 e);
+            refused-fails = λ p e. refused-fails b still h p (refused-is p .0 e);
+          }
+
+    holds-here : Promise b h r
+    holds-here =
+        record {
+          at-most-eight = a .passes .eight;
+          low-passes = a .passes .low-passes;
+          high-passes = a .passes .high-passes;
+          eight = eight;
+          before-eight = is-open;
+          carried-exactly = carried-exactly;
+          refused-leaves = refused-leaves;
+        }
+
+  -- ---- a call keeps the agreement
+  no-more : {r : Record} {h : History} → Agrees r h → Agrees r (h ++ [])
+  no-more {r} {h} a = rw (append-nil h) a
+
+  -- a closing leaves the closed record where it is carried out
+  left-is : (c : Closing) (r : Record) → orBlank r (closing r c) ≡ cond (isGiven (closing r c)) (recordClosed r c) r
+  unfolding closing
+  left-is c r =
+      let new = recordClosed r c in
+      orBlank-is r (closingCauses r c) new ∙ ap (λ (g : Bool). cond g new r) (sym (given-is (closingCauses r c) new))
+
+  step : (call : Call) (r : Record) (h : History) → Agrees r h → Agrees (after r call) (h ++ done r call)
+  step (check p) r h a = no-more a
+  step propose r h a = no-more a
+  step (close c) r h a = rw (left-is c r) (by (isGiven (closing r c)) refl)
+    where
+      by : (g : Bool) → isGiven (closing r c) ≡ g → Agrees (cond g (recordClosed r c) r) (h ++ cond g (c ∷ []) [])
+      by false e = no-more a
+      by true e =
+          let o = carried-exactly a c .0 e in
+          record {
+            passes = next-passes b h c (a .passes) o;
+            totals = totals-next t curves size first no-number h c (a .passes) (a .totals) o;
+            is-record = ap (λ (r : Record). recordClosed r c) (a .is-record) ∙ closed-is t curves size first no-number h (a .passes) c o;
+          }
+
+  reaches : (calls : List Call) (r : Record) (h : History) → Agrees r h → Agrees (run r calls) (h ++ carriedOut r calls)
+  unfolding carriedOut
+  reaches [] r h a = no-more a
+  reaches (call ∷ calls) r h a =
+      rw (append-assoc h (done r call) (carriedOut (after r call) calls)) at
+      (reaches calls (after r call) (h ++ done r call) (step call r h a))
+
+  -- ---- from the record that opening returned
+  at-first : Agrees (firstRecord t curves size first) []
+  unfolding recordAfter entriesAfter stateAfter periodsTo sum
+  at-first = record { passes = first-passes b opened; totals = no-totals t curves size first no-number; is-record = refl }
+
+  kept : (calls : List Call) → Demand3 t curves size first (firstRecord t curves size first) calls
+  kept calls =
+      let a = reaches calls (firstRecord t curves size first) [] at-first in
+      record {
+        promise = holds-here a;
+        keeps = rw (a .is-record) (rule-holds t curves size first no-number _ (a .passes) (a .totals));
+        holds = a .is-record;
+      }
+
+-- from the record that opening returned where none of its causes holds, after every list of calls
+pub demand-3 : (t : Terms) (curves : Curves) (size first : ℕ) (r₀ : Record) → opening t curves size first ≡ given r₀
+    → (calls : List Call) → Demand3 t curves size first r₀ calls
+unfolding opening
+demand-3 t curves size first r₀ e calls =
+    let no-number = given-clear (openingCauses t curves size first) (firstRecord t curves size first) r₀ e in
+    let is : firstRecord t curves size first ≡ r₀ = same-given (sym (clear-given (openingCauses t curves size first) (firstRecord t curves size first) no-number) ∙ e) in
+    rw (← is) (kept t curves size first no-number calls)

@@ -1,0 +1,48 @@
+-- The new state in natural numbers: what comes up less what goes down. Assumes nothing.
+use mathlib.Core.Path.{_≡_, sym}
+use mathlib.Core.Bool.{true, false, _&&_, and-false}
+use Prim.Native.Nat.{ℕ, _+_, _-_, _≤_, _<_}
+use native.Mathlib.Omega.{arith}
+use lib.IntN.{ℤ, pos, _+ℤ_, _-ℤ_}
+use lib.Signed.{leZ}
+use Rattle.common.proofs.Tests.{both-true}
+use Rattle.signed.specs.Sign.{above, below, within}
+use Rattle.signed.proofs.Whole.{whole, one-sided, sum, less}
+use Rattle.signed.proofs.Orders.{within-true, true-within, true-leZ, false-leZ}
+use Rattle.ledger.specs.Calls as calls
+use Rattle.ledger.specs.Calls.{moved}
+
+module _ (state size low high : ℕ) (p d k : ℤ) (e : within (pos 0) d (pos low) && within (pos 0) k (pos high) ≡ true) where
+  abbrev pub new : ℤ
+  new = moved (pos state) p d k
+
+  abbrev pub comes : ℕ
+  comes = state + above p + above k
+
+  abbrev pub goes : ℕ
+  goes = below p + above d
+
+  -- delivered and taken are not negative, and at most their bounds
+  pub bounded : (below d ≡ 0) × (above d ≤ low) × (below k ≡ 0) × (above k ≤ high)
+  bounded =
+      let w = both-true (within (pos 0) d (pos low)) (within (pos 0) k (pos high)) e in
+      let x = within-true (pos 0) d (pos low) (w .0) in
+      let y = within-true (pos 0) k (pos high) (w .1) in
+      (omega (arith, whole, x, one-sided d), omega (arith, whole, x, one-sided d), omega (arith, whole, y, one-sided k), omega (arith, whole, y, one-sided k))
+
+  parts : above new + goes ≡ comes + below new
+  parts =
+      let s = pos state +ℤ p in
+      omega (arith, bounded, sum (pos state) p, less s d, sum (s -ℤ d) k)
+
+  pub below-empty : comes < goes → calls.settles low high size d k new ≡ false
+  below-empty h = rw (e, false-leZ {a = pos 0} {b = new} (omega (arith, whole, parts, one-sided new)))
+
+  pub above-full : goes ≤ comes → size < comes - goes → calls.settles low high size d k new ≡ false
+  above-full l h = rw (e, false-leZ {a = new} {b = pos size} (omega (arith, whole, parts, one-sided new))) (and-false (leZ (pos 0) new))
+
+  pub settles : goes ≤ comes → comes - goes ≤ size → calls.settles low high size d k new ≡ true
+  settles l h = rw (e, true-within (pos 0) new (pos size) (omega (arith, whole, parts, one-sided new)) (omega (arith, whole, parts, one-sided new)))
+
+  pub new-is : goes ≤ comes → above new ≡ comes - goes
+  new-is l = omega (arith, parts, one-sided new)

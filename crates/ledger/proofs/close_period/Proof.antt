@@ -1,0 +1,199 @@
+-- `ledger::close_period` meets its contract, by its causes in their order. Assumes nothing.
+use mathlib.Core.Path.{_≡_, refl, sym, ap, _∙_}
+use mathlib.Core.Bool.{Bool, true, false, cond, _&&_}
+use Prim.Native.Nat.{ℕ, _+_, _<_, _^_}
+use native.Mathlib.Omega.{arith}
+use borrow.Author.Needs.{needs}
+use borrow.Author.Tests.{ltb-false, not-false}
+use denote.Ref.{now}
+use lib.IntN.{ℤ, pos}
+use lib.ListN.{length}
+use mir.Facts.{toZ-ofZ}
+use Rattle.common.specs.Answer.{given}
+use Rattle.common.proofs.Tests.{both-true}
+use Rattle.signed.specs.Sign.{above, below, within}
+use Rattle.terms.specs.Terms.{Q}
+use Rattle.energy.specs.Period.{lowDeviation, highDeviation}
+use Rattle.energy.proofs.Laws.{bound-most}
+use Rattle.ledger_record.specs.declared.Record.{Record}
+use Rattle.ledger_record.proofs.Openings.{Fits}
+use Rattle.ledger_record.proofs.Kept.{Kept, kept, fits}
+use Rattle.ledger.specs.declared.Settled.the-variants.{Not, To}
+use Rattle.ledger.specs.Calls.{unusable, accepts, moved, settles, closing}
+use Rattle.ledger.proofs.Closings.{accepted-most, no-bounds, BoundsAre, bounds-are, not-settled, settled-to}
+use Rattle.ledger.proofs.Settling.{bounded}
+use Rattle.ledger.proofs.Usable.{rule-kept, before-eight}
+use Rattle.ledger.proofs.close_period.Statement.{statement}
+use Rattle.ledger.proofs.close_period.Tie as tie
+
+-- the arrays of a record have eight entries
+eight : (c : tie.Start) → (length (c .args .given .low .bounds) ≡ 8) × (length (c .args .given .high .bounds) ≡ 8)
+eight c =
+    let low = c .good .0 .1 .1 .1 .1 .1 .1 .1 .1 .0 .1 .0 in
+    let high = c .good .0 .1 .1 .1 .1 .1 .1 .1 .1 .1 .0 .1 .0 in
+    (search needs, search needs)
+
+-- ---- what is known once neither 10 nor 8 holds
+module _ (c : tie.Else2) where
+  abbrev start : tie.Start
+  start = c .before .before .before .before .before
+
+  can-use : unusable (start .args .given) ≡ false
+  can-use =
+      let i = c .before .before in
+      sym (i .before .is-unusable .ensures) ∙ i .if1 .left
+
+  fits-here : let g = start .args .given in Fits (g .terms) (g .curves) (g .size) (g .first)
+  fits-here = fits _ (rule-kept _ can-use)
+
+  kept-here : Kept (start .args .given)
+  kept-here = kept _ (eight start .0) (eight start .1) (rule-kept _ can-use)
+
+  accepted : accepts (start .args .given) (start .args .purchase) ≡ true
+  accepted =
+      let a = c .before in
+      ap (accepts (start .args .given)) (sym (toZ-ofZ (start .fits .purchase)))
+      ∙ sym (a .is-accepted .ensures)
+      ∙ not-false (a .is-accepted .result) (c .if2 .left)
+
+-- ---- and once there are bounds, and settling has its answer
+module _ (c : tie.After-settle) where
+  abbrev energy-here : tie.After-period-energy
+  energy-here = c .before .before .before .before
+
+  abbrev on : tie.Else2
+  on = energy-here .before .before .before .before .before
+
+  abbrev g : Record
+  g = start on .args .given
+
+  abbrev low : ℕ
+  low = c .before .before .bounds .given .0 .0
+
+  abbrev high : ℕ
+  high = c .before .before .bounds .given .0 .1 .0
+
+  abbrev new : ℤ
+  new = moved (pos (g .state)) (start on .args .purchase) (start on .args .delivered) (start on .args .taken)
+
+  bounds-here : BoundsAre (g .terms .low) (g .terms .high) (g .curves) (now (start on .args .readings)) (fits-here on .low-quantity) (fits-here on .high-quantity) (fits-here on .curves-hold) (energy-here .period-energy .result) (energy-here .period-energy .ensures) low high
+  bounds-here = bounds-are _ _ _ _ _ _ _ _ _ low high (c .before .before .bounds .given .1)
+
+  abbrev test : Bool
+  test = settles low high (g .size) (start on .args .delivered) (start on .args .taken) new
+
+  settle-is : c .settle .result ≡ cond test (To (above new)) Not
+  settle-is =
+      let f = start on .fits in
+      rw (toZ-ofZ (f .purchase), toZ-ofZ (f .delivered), toZ-ofZ (f .taken)) at (c .settle .ensures)
+
+  -- the totals stay in range
+  totals-fit : test ≡ true → let a = start on .args in
+      (g .closed < 8) × (g .bought + above (a .purchase) < 2 ^ 32) × (g .sold + below (a .purchase) < 2 ^ 32) × (g .delivered + above (a .delivered) < 2 ^ 32) × (g .taken + above (a .taken) < 2 ^ 32)
+  totals-fit e =
+      let a = start on .args in
+      let k = kept-here on in
+      let f = fits-here on in
+      let n = before-eight g (can-use on) in
+      let p = accepted-most g (a .purchase) (accepted on) (k .state-most) (f .size-most) in
+      let both-bounds = both-true (within (pos 0) (a .delivered) (pos low) && within (pos 0) (a .taken) (pos high)) (within (pos 0) new (pos (g .size))) e .0 in
+      let d = bounded (g .state) (g .size) low high (a .purchase) (a .delivered) (a .taken) both-bounds in
+      let b = bounds-here in
+      let l = bound-most (g .terms .low) (g .curves) (f .curves-hold) lowDeviation (now (a .readings)) (b .good) in
+      let h = bound-most (g .terms .high) (g .curves) (f .curves-hold) highDeviation (now (a .readings)) (b .good) in (
+        n,
+        omega (arith, p, k .bought-most, n),
+        omega (arith, p, k .sold-most, n),
+        omega (arith, d, k .delivered-most, b .low-is, l, ltb-false 1000 (Q (g .terms .low)) (f .low-quantity)),
+        omega (arith, d, k .taken-most, b .high-is, h, ltb-false 1000 (Q (g .terms .high)) (f .high-quantity)),
+      )
+
+is-unusable-requires : tie.Need-is-unusable-requires
+is-unusable-requires c κs = search needs
+
+returns : tie.Need-returns
+unfolding closing
+returns c = rw (← c .before .is-unusable .ensures, c .if1 .taken) (refl, refl)
+
+is-accepted-requires : tie.Need-is-accepted-requires
+is-accepted-requires c κs = before-eight _ (sym (c .before .is-unusable .ensures) ∙ c .if1 .left)
+
+returns-2 : tie.Need-returns-2
+unfolding closing
+returns-2 c =
+    let i = c .before .before in
+    rw (← i .before .is-unusable .ensures, i .if1 .left, ← toZ-ofZ (i .before .before .before .fits .purchase), ← c .before .is-accepted .ensures, c .if2 .taken) (refl, refl)
+
+period-energy-requires : tie.Need-period-energy-requires
+period-energy-requires c κs = search needs
+
+enum-known-bounds : tie.Need-enum-known-bounds
+enum-known-bounds c = search needs
+
+returns-3 : tie.Need-returns-3
+unfolding closing
+returns-3 c =
+    let e = c .before in
+    let i = e .before .before .before .before .before in
+    let f = fits-here i in
+    rw (can-use i, accepted i, no-bounds _ _ _ _ (f .low-quantity) (f .high-quantity) (f .curves-hold) (e .period-energy .result) (e .period-energy .ensures) (c .match .keys2)) (refl, refl)
+
+settle-requires : tie.Need-settle-requires
+settle-requires c κs = search needs
+
+enum-known-settled : tie.Need-enum-known-settled
+enum-known-settled c = search needs
+
+enum-told : tie.Need-enum-told
+enum-told c = search needs
+
+returns-4 : tie.Need-returns-4
+unfolding closing
+returns-4 c =
+    let m = c .before .before in
+    let b = bounds-here m in
+    rw (
+      can-use (on m),
+      accepted (on m),
+      b .good,
+      ← b .low-is,
+      ← b .high-is,
+      not-settled (test m) (above (new m)) (m .settle .result) (settle-is m) (c .enum-told .given .1),
+    )
+    (refl, refl)
+
+closed-record-requires : tie.Need-closed-record-requires
+closed-record-requires c κs =
+    let m = c .before .before .before in
+    let t = settled-to (test m) (above (new m)) (c .before .settled .given .0 .0) (m .settle .result) (settle-is m) (c .before .settled .given .1) in
+    let f = start (on m) .fits in
+    rw (toZ-ofZ (f .purchase), toZ-ofZ (f .delivered), toZ-ofZ (f .taken)) (totals-fit m (t .0))
+
+returns-5 : tie.Need-returns-5
+unfolding closing
+returns-5 c =
+    let k = c .before in
+    let m = k .before .before .before in
+    let b = bounds-here m in
+    let t = settled-to (test m) (above (new m)) (k .before .settled .given .0 .0) (m .settle .result) (settle-is m) (k .before .settled .given .1) in
+    let f = start (on m) .fits in
+    let made = rw (toZ-ofZ (f .purchase), toZ-ofZ (f .delivered), toZ-ofZ (f .taken), t .1) at (c .closed-record .ensures) in
+    rw (can-use (on m), accepted (on m), b .good, ← b .low-is, ← b .high-is, t .0) (ap given made, made)
+
+pub close-period-spec : {M : Type 1} → statement M
+close-period-spec =
+    tie.close
+    (tie.spec
+    is-unusable-requires
+    returns
+    is-accepted-requires
+    returns-2
+    period-energy-requires
+    enum-known-bounds
+    returns-3
+    settle-requires
+    enum-known-settled
+    enum-told
+    returns-4
+    closed-record-requires
+    returns-5)

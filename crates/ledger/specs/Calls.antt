@@ -1,0 +1,160 @@
+-- Paper 01, "Ledger": checking, proposing and closing, each as its whole answer for any record. Assumes nothing.
+use mathlib.Core.Bool.{Bool, not, cond, _&&_, _||_}
+use mathlib.Core.List.{List, [], _∷_}
+use Prim.Native.Nat.{ℕ, suc, _+_}
+use lib.Dec.{eqb}
+use lib.IntN.{ℤ, pos, _+ℤ_, _-ℤ_}
+use lib.ListN.{set}
+use lib.Signed.{ltZ}
+use Rattle.common.specs.Answer.{Answer, refused, given, Cause, cause, checked}
+use Rattle.common.specs.Periods.{ofPeriod}
+use Rattle.signed.specs.Sign.{above, below, greater, within}
+use Rattle.terms.specs.Terms.{REV, ER}
+use Rattle.terms.specs.declared.Quantities.{Quantities}
+use Rattle.requirement.specs.Requirement.{sched, start}
+use Rattle.energy.specs.Period.{goodReadings, lowBound, highBound}
+use Rattle.ledger_record.specs.Rule.{startAt, backAt, recordRule}
+use Rattle.ledger_record.specs.declared.Entries.{Entries}
+use Rattle.ledger_record.specs.declared.Record.{Record}
+use Rattle.ledger.specs.declared.CheckAnswer.{CheckAnswer}
+use Rattle.ledger.specs.declared.CheckAnswer.the-variants as checks
+use Rattle.ledger.specs.declared.ProposeAnswer.{ProposeAnswer}
+use Rattle.ledger.specs.declared.ProposeAnswer.the-variants as proposes
+use Rattle.ledger.specs.declared.CloseAnswer.{CloseAnswer}
+use Rattle.ledger.specs.declared.CloseAnswer.the-variants as closes
+use Rattle.ledger.specs.declared.Closed.{Closed}
+
+-- eight periods closed, or record rule broken
+unfoldable pub unusable : Record → Bool
+unusable r = eqb (r .closed) 8 || not (recordRule r)
+
+-- ---- checking a purchase p (negative is a sale), with period i next
+
+-- the greater of 0 and start(i) + back(i)
+unfoldable pub need : Quantities → Entries → ℕ → ℤ
+need q x i = greater (pos 0) (startAt q x i +ℤ pos (backAt q x i))
+
+-- floor: the low need; ceiling: size less the high need
+abbrev pub floor : Record → ℤ
+floor r = need (r .terms .low) (r .low) (suc (r .closed))
+
+abbrev pub ceiling : Record → ℤ
+ceiling r = pos (r .size) -ℤ need (r .terms .high) (r .high) (suc (r .closed))
+
+-- accepted exactly when floor ≤ state + p ≤ ceiling
+unfoldable pub accepts : Record → ℤ → Bool
+accepts r p = within (floor r) (pos (r .state) +ℤ p) (ceiling r)
+
+-- checking refuses only 10, then 8
+unfoldable pub checking : Record → ℤ → Answer Unit
+checking r p = checked (cause 10 (unusable r) ∷ cause 8 (not (accepts r p)) ∷ []) tt
+
+-- ---- proposing
+
+-- the accepted p nearest 0: what brings the state up to the floor, or down to the ceiling, or 0
+abbrev pub toward : ℤ → ℤ → ℤ → ℤ
+toward floor state ceiling =
+    cond (ltZ state floor) (floor -ℤ state)
+    (cond (ltZ ceiling state) (ceiling -ℤ state)
+    (pos 0))
+
+unfoldable pub proposal : Record → ℤ
+proposal r = toward (floor r) (pos (r .state)) (ceiling r)
+
+-- proposing refuses only 10
+unfoldable pub proposing : Record → Answer ℤ
+proposing r = checked (cause 10 (unusable r) ∷ []) (proposal r)
+
+-- ---- closing
+
+-- purchase, readings, energy delivered low and energy taken high
+pub record Closing : Type 0 where
+  pub purchase : ℤ
+  pub readings : List ℕ
+  pub delivered : ℤ
+  pub taken : ℤ
+
+-- new state = state + p − delivered + taken
+abbrev pub moved : ℤ → ℤ → ℤ → ℤ → ℤ
+moved state p delivered taken = state +ℤ p -ℤ delivered +ℤ taken
+
+abbrev pub newState : ℤ → Closing → ℤ
+newState state c = moved state (c .purchase) (c .delivered) (c .taken)
+
+-- delivered and taken are each from 0 to their bound, and the new state lies in 0..size
+abbrev pub settles : ℕ → ℕ → ℕ → ℤ → ℤ → ℤ → Bool
+settles low high size delivered taken new =
+    within (pos 0) delivered (pos low)
+    && within (pos 0) taken (pos high)
+    && within (pos 0) new (pos size)
+
+-- a direction's entries with one period more: its bound, its start and its schedule
+unfoldable pub closedEntries : Quantities → Entries → ℕ → ℕ → Entries
+closedEntries q x closed bound =
+    record {
+      bounds = set (x .bounds) closed bound;
+      starts = set (x .starts) closed (start (REV q) (ER q) (ofPeriod (set (x .bounds) closed bound)) (suc closed));
+      scheds = set (x .scheds) closed (sched (ER q) (ofPeriod (set (x .bounds) closed bound)) (suc closed));
+    }
+
+-- one period more is closed; purchases above 0 are bought, those below 0 sold
+unfoldable pub closedRecord : Record → ℕ → ℕ → ℕ → ℤ → ℤ → ℤ → Record
+closedRecord r low high new p delivered taken =
+    record {
+      terms = r .terms;
+      curves = r .curves;
+      size = r .size;
+      first = r .first;
+      state = new;
+      closed = r .closed + 1;
+      low = closedEntries (r .terms .low) (r .low) (r .closed) low;
+      high = closedEntries (r .terms .high) (r .high) (r .closed) high;
+      bought = r .bought + above p;
+      sold = r .sold + below p;
+      delivered = r .delivered + above delivered;
+      taken = r .taken + above taken;
+    }
+
+module _ (r : Record) (c : Closing) where
+  -- the bounds of the period's readings
+  abbrev pub low : ℕ
+  low = lowBound (r .terms .low) (r .curves) (c .readings)
+
+  abbrev pub high : ℕ
+  high = highBound (r .terms .high) (r .curves) (c .readings)
+
+  abbrev pub recordClosed : Record
+  recordClosed = closedRecord r low high (above (newState (pos (r .state)) c)) (c .purchase) (c .delivered) (c .taken)
+
+  -- closing checks 10, 8, 6, 9
+  abbrev pub closingCauses : List Cause
+  closingCauses =
+      cause 10 (unusable r)
+      ∷ cause 8 (not (accepts r (c .purchase)))
+      ∷ cause 6 (not (goodReadings (c .readings)))
+      ∷ cause 9 (not (settles low high (r .size) (c .delivered) (c .taken) (newState (pos (r .state)) c)))
+      ∷ []
+
+  unfoldable pub closing : Answer Record
+  closing = checked closingCauses recordClosed
+
+-- ---- the number and values of each case of the code's answers
+
+abbrev pub checkedOf : CheckAnswer → Answer Unit
+checkedOf checks.Accepted = given tt
+checkedOf checks.Unusable = refused 10
+checkedOf checks.Purchase = refused 8
+
+abbrev pub proposedOf : ProposeAnswer → Answer ℤ
+proposedOf (proposes.Purchase p) = given p
+proposedOf proposes.Unusable = refused 10
+
+abbrev pub numbered : CloseAnswer → Record → Answer Record
+numbered closes.Closed r = given r
+numbered closes.Unusable r = refused 10
+numbered closes.Purchase r = refused 8
+numbered closes.Readings r = refused 6
+numbered closes.Energy r = refused 9
+
+abbrev pub closedOf : Closed → Answer Record
+closedOf c = numbered (c .answer) (c .«record»)

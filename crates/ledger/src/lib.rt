@@ -1,0 +1,309 @@
+// The ledger: checking, proposing and closing, over the record of ledger_record.
+ghost use mathlib.Core.Path.{_≡_};
+ghost use mathlib.Core.Bool.{cond, _&&_};
+ghost use Prim.Native.Nat.{suc, _+_, _≤_, _<_, _^_};
+ghost use lib.IntN.{pos, _+ℤ_, _-ℤ_};
+ghost use Rattle.common.specs.Answer.{orBlank};
+ghost use Rattle.signed.specs.Sign.{above, below, within};
+ghost use Rattle.terms.specs.Terms.{REV};
+ghost use Rattle.ledger.specs.Calls.{need, floor, ceiling, accepts, toward, moved, settles, closedEntries, closedRecord, unusable, checking, checkedOf, proposing, proposedOf, closing, closedOf};
+use energy::period::PeriodEnergy;
+use ledger_record::Entries;
+use ledger_record::Record;
+use terms::Quantities;
+
+pub enum CheckAnswer {
+    Accepted,
+    // Eight periods are closed, or the record rule is broken.
+    Unusable,
+    // The purchase is not accepted.
+    Purchase,
+}
+
+pub enum ProposeAnswer {
+    Purchase(i64),
+    Unusable,
+}
+
+pub enum CloseAnswer {
+    Closed,
+    Unusable,
+    Purchase,
+    // The count is not 3,600, or a reading is bad.
+    Readings,
+    // Delivered or taken is below 0 or above its bound, or the new state is outside 0..size.
+    Energy,
+}
+
+pub struct Closed {
+    pub answer: CloseAnswer,
+    pub record: Record,
+}
+
+// Refusal 10.
+fn is_unusable(given: Record) -> bool
+    ensures { λ r. ⌜ r ≡ unusable given ⌝ }
+{
+    (given.closed == 8) | !ledger_record::record_holds(given)
+}
+
+// ---- checking
+
+// The greater of 0 and start + back of the period after the closed ones.
+fn need_of(q: Quantities, closed: u32, entries: Entries) -> u64
+    requires { ⌜ closed < 8 ⌝ }
+    ensures { λ r. ⌜ (pos r ≡ need q entries (suc closed)) × (r ≤ REV q) ⌝ }
+{
+    let bounds = entries.bounds;
+    let rows = requirement::direction_table(q, bounds).rows;
+    let row = rows[closed as usize];
+    let start = row.start;
+    let up = signed::above_zero(start) + row.back;
+    let down = signed::below_zero(start);
+    if up < down {
+        return 0;
+    }
+    up - down
+}
+
+// What the state must reach, and what must be free above it.
+struct Needs {
+    low: u64,
+    high: u64,
+}
+
+fn needs_of(given: Record) -> Needs
+    requires { ⌜ given .closed < 8 ⌝ }
+    ensures { λ r. ⌜ (pos (r .low) ≡ floor given) × (pos (given .size) -ℤ pos (r .high) ≡ ceiling given) × (r .low ≤ REV (given .terms .low)) × (r .high ≤ REV (given .terms .high)) ⌝ }
+{
+    let t = given.terms;
+    let low = t.low;
+    let high = t.high;
+    let low_entries = given.low;
+    let high_entries = given.high;
+    Needs {
+        low: need_of(low, given.closed, low_entries),
+        high: need_of(high, given.closed, high_entries),
+    }
+}
+
+// Whether state + p lies from low to size less high.
+fn lies_between(low: u64, state: u32, size: u32, high: u64, p: i64) -> bool
+    requires { ⌜ (low ≤ 2 ^ 44) × (high ≤ 2 ^ 44) ⌝ }
+    ensures { λ r. ⌜ r ≡ within (pos low) (pos state +ℤ p) (pos size -ℤ pos high) ⌝ }
+{
+    let up = state as u64 + signed::above_zero(p);
+    let down = signed::below_zero(p);
+    (low + down <= up) & (up + high <= size as u64 + down)
+}
+
+fn is_accepted(given: Record, purchase: i64) -> bool
+    requires { ⌜ given .closed < 8 ⌝ }
+    ensures { λ r. ⌜ r ≡ accepts given purchase ⌝ }
+{
+    let n = needs_of(given);
+    lies_between(n.low, given.state, given.size, n.high, purchase)
+}
+
+// Checks a purchase, of which a negative one is a sale: refusals 10, 8.
+pub fn check_purchase(given: Record, purchase: i64) -> CheckAnswer
+    ensures { λ r. ⌜ checkedOf r ≡ checking given purchase ⌝ }
+{
+    if is_unusable(given) {
+        return CheckAnswer::Unusable;
+    }
+    if !is_accepted(given, purchase) {
+        return CheckAnswer::Purchase;
+    }
+    CheckAnswer::Accepted
+}
+
+// ---- proposing
+
+// What brings the state to low or more and to size less high or less.
+fn nearest(low: u64, state: u32, size: u32, high: u64) -> i64
+    requires { ⌜ (low ≤ 2 ^ 44) × (high ≤ 2 ^ 44) ⌝ }
+    ensures { λ r. ⌜ r ≡ toward (pos low) (pos state) (pos size -ℤ pos high) ⌝ }
+{
+    let state = state as u64;
+    let size = size as u64;
+    if state < low {
+        return signed::difference(low, state);
+    }
+    if size < state + high {
+        return signed::difference(size, state + high);
+    }
+    0
+}
+
+// Proposes the accepted purchase nearest 0: refusal 10.
+pub fn propose_purchase(given: Record) -> ProposeAnswer
+    ensures { λ r. ⌜ proposedOf r ≡ proposing given ⌝ }
+{
+    if is_unusable(given) {
+        return ProposeAnswer::Unusable;
+    }
+    let n = needs_of(given);
+    ProposeAnswer::Purchase(nearest(n.low, given.state, given.size, n.high))
+}
+
+// ---- closing
+
+// The new state, where a closing settles.
+enum Settled {
+    Not,
+    To(u32),
+}
+
+fn within_bound(energy: i64, bound: u32) -> bool
+    ensures { λ r. ⌜ r ≡ within (pos 0) energy (pos bound) ⌝ }
+{
+    (signed::below_zero(energy) == 0) & (signed::above_zero(energy) <= bound as u64)
+}
+
+fn settle(
+    state: u32,
+    size: u32,
+    low: u32,
+    high: u32,
+    purchase: i64,
+    delivered: i64,
+    taken: i64,
+) -> Settled
+    ensures { λ r. ⌜ r ≡ cond (settles low high size delivered taken (moved (pos state) purchase delivered taken)) (Settled.To (above (moved (pos state) purchase delivered taken))) Settled.Not ⌝ }
+{
+    if !(within_bound(delivered, low) & within_bound(taken, high)) {
+        return Settled::Not;
+    }
+    let up = state as u64 + signed::above_zero(purchase) + signed::above_zero(taken);
+    let down = signed::below_zero(purchase) + signed::above_zero(delivered);
+    if up < down {
+        return Settled::Not;
+    }
+    let new = up - down;
+    if (size as u64) < new {
+        return Settled::Not;
+    }
+    Settled::To(new as u32)
+}
+
+// A direction's entries with one period more.
+fn closed_entries(q: Quantities, entries: Entries, closed: u32, bound: u32) -> Entries
+    requires { ⌜ closed < 8 ⌝ }
+    ensures { λ r. ⌜ r ≡ closedEntries q entries closed bound ⌝ }
+{
+    let at = closed as usize;
+    let mut bounds = entries.bounds;
+    bounds[at] = bound;
+    let rows = requirement::direction_table(q, bounds).rows;
+    let row = rows[at];
+    let start = row.start;
+    let mut starts = entries.starts;
+    starts[at] = start;
+    let mut scheds = entries.scheds;
+    scheds[at] = row.sched;
+    Entries {
+        bounds,
+        starts,
+        scheds,
+    }
+}
+
+// A total with what a closing adds to it.
+fn total(a: u32, b: u64) -> u32
+    requires { ⌜ a + b < 2 ^ 32 ⌝ }
+    ensures { λ r. ⌜ r ≡ a + b ⌝ }
+{
+    a + b as u32
+}
+
+// The record with one more period closed.
+fn closed_record(
+    given: Record,
+    low: u32,
+    high: u32,
+    new: u32,
+    purchase: i64,
+    delivered: i64,
+    taken: i64,
+) -> Record
+    requires { ⌜ (given .closed < 8) × (given .bought + above purchase < 2 ^ 32) × (given .sold + below purchase < 2 ^ 32) × (given .delivered + above delivered < 2 ^ 32) × (given .taken + above taken < 2 ^ 32) ⌝ }
+    ensures { λ r. ⌜ r ≡ closedRecord given low high new purchase delivered taken ⌝ }
+{
+    let t = given.terms;
+    let curves = given.curves;
+    let low_q = t.low;
+    let high_q = t.high;
+    let low_entries = given.low;
+    let high_entries = given.high;
+    let closed = given.closed;
+    Record {
+        terms: t,
+        curves,
+        size: given.size,
+        first: given.first,
+        state: new,
+        closed: closed + 1,
+        low: closed_entries(low_q, low_entries, closed, low),
+        high: closed_entries(high_q, high_entries, closed, high),
+        bought: total(given.bought, signed::above_zero(purchase)),
+        sold: total(given.sold, signed::below_zero(purchase)),
+        delivered: total(given.delivered, signed::above_zero(delivered)),
+        taken: total(given.taken, signed::above_zero(taken)),
+    }
+}
+
+// Closes a period: refusals 10, 8, 6, 9; the record stays as it was beside a refusal.
+pub fn close_period(
+    given: Record,
+    purchase: i64,
+    readings: &[u16],
+    delivered: i64,
+    taken: i64,
+) -> Closed
+    ensures { λ r. ⌜ (closedOf r ≡ closing given (record { purchase = purchase; readings = now (readings .entry); delivered = delivered; taken = taken })) × (r .«record» ≡ orBlank given (closing given (record { purchase = purchase; readings = now (readings .entry); delivered = delivered; taken = taken }))) ⌝ }
+{
+    if is_unusable(given) {
+        return Closed {
+            answer: CloseAnswer::Unusable,
+            record: given,
+        };
+    }
+    if !is_accepted(given, purchase) {
+        return Closed {
+            answer: CloseAnswer::Purchase,
+            record: given,
+        };
+    }
+    let t = given.terms;
+    let curves = given.curves;
+    let low_q = t.low;
+    let high_q = t.high;
+    let bounds = energy::period::period_energy(low_q, high_q, curves, readings);
+    let PeriodEnergy::Bounds { low, high } = bounds else {
+        return Closed {
+            answer: CloseAnswer::Readings,
+            record: given,
+        };
+    };
+    let settled = settle(
+        given.state,
+        given.size,
+        low,
+        high,
+        purchase,
+        delivered,
+        taken,
+    );
+    let Settled::To(new) = settled else {
+        return Closed {
+            answer: CloseAnswer::Energy,
+            record: given,
+        };
+    };
+    let record = closed_record(given, low, high, new, purchase, delivered, taken);
+    Closed {
+        answer: CloseAnswer::Closed,
+        record,
+    }
+}

@@ -1,0 +1,4 @@
+pub mod Entry
+pub mod Kept
+pub mod Openings
+pub mod State

@@ -1,0 +1,55 @@
+-- `ledger_record::record_holds` meets its contract. Assumes nothing.
+use native.Mathlib.Omega.{arith}
+use borrow.Author.Needs.{needs}
+use borrow.Author.Tests.{le-leb, lt-leb}
+use Rattle.ledger_record.specs.Rule.{recordRule}
+use Rattle.ledger_record.proofs.record_holds.Statement.{statement}
+use Rattle.ledger_record.proofs.record_holds.Tie as tie
+
+returns : tie.Need-returns
+unfolding recordRule
+returns c = rw (lt-leb (c .before .args .given .closed) 8 (omega arith))
+
+opening-clear-requires : tie.Need-opening-clear-requires
+opening-clear-requires c κs = search needs
+
+entries-hold-requires : tie.Need-entries-hold-requires
+entries-hold-requires c κs = search needs
+
+entries-hold-requires-2 : tie.Need-entries-hold-requires-2
+entries-hold-requires-2 c κs = search needs
+
+totals-hold-requires : tie.Need-totals-hold-requires
+totals-hold-requires c κs = search needs
+
+state-holds-requires : tie.Need-state-holds-requires
+state-holds-requires c κs = search needs
+
+returns-2 : tie.Need-returns-2
+unfolding recordRule
+returns-2 c =
+    let t = c .before in
+    let h = t .before in
+    let l = h .before in
+    let o = l .before in
+    let e = o .before .before .before .before .before .before .before in
+    rw (
+      c .state-holds .ensures,
+      t .totals-hold .ensures,
+      h .entries-hold2 .ensures,
+      l .entries-hold .ensures,
+      o .opening-clear .ensures,
+      le-leb (e .before .args .given .closed) 8 (e .if1 .left),
+    )
+
+pub record-holds-spec : {M : Type 1} → statement M
+record-holds-spec =
+    tie.close
+    (tie.spec
+    returns
+    opening-clear-requires
+    entries-hold-requires
+    entries-hold-requires-2
+    totals-hold-requires
+    state-holds-requires
+    returns-2)

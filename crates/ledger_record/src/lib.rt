@@ -1,0 +1,366 @@
+// The ledger's record, its rule and opening.
+ghost use mathlib.Core.Path.{_≡_};
+ghost use mathlib.Core.Bool.{cond, _&&_};
+ghost use Prim.Native.Nat.{suc, _+_, _-_, _*_, _≤_};
+ghost use lib.Dec.{leb, eqb};
+ghost use lib.IntN.{pos};
+ghost use Rattle.common.specs.Answer.{clear, orBlank};
+ghost use Rattle.common.specs.Lists.{sum};
+ghost use Rattle.signed.specs.Sign.{above, eqZ};
+ghost use Rattle.ledger_record.specs.Opening.{quantityOut, sizeOut, firstOut, openingCauses, firstRecord, blankRecord, opening, openedOf};
+ghost use Rattle.ledger_record.specs.Rule.{startAt, entriesRule, totalsRule, stateRule, recordRule};
+use energy::curve::Curve;
+use energy::curve::Curves;
+use energy::curve::Point;
+use energy::curve::curves_hold;
+use terms::DirectionTerms;
+use terms::Quantities;
+use terms::Terms;
+
+// A direction's bound, requirement (its start) and schedule of each closed period.
+pub struct Entries {
+    pub bounds: [u32; 8],
+    pub starts: [i64; 8],
+    pub scheds: [u64; 8],
+}
+
+// Nothing in it is trusted: each call answers for any bits.
+pub struct Record {
+    pub terms: Terms,
+    pub curves: Curves,
+    pub size: u32,
+    pub first: u32,
+    pub state: u32,
+    pub closed: u32,
+    pub low: Entries,
+    pub high: Entries,
+    pub bought: u32,
+    pub sold: u32,
+    pub delivered: u32,
+    pub taken: u32,
+}
+
+pub enum OpenAnswer {
+    Open,
+    // A direction is above 1,000 MW, or both are 0.
+    Quantity,
+    // A power limit is outside its range, or overbid.
+    Power,
+    // A curve breaks its rule.
+    Curve,
+    // The size is above 10,000,000 or below both REVs together.
+    Size,
+    // The first state is below the low REV or above the size less the high REV.
+    State,
+}
+
+pub struct Opened {
+    pub answer: OpenAnswer,
+    pub record: Record,
+}
+
+// ---- opening
+
+// Refusal 1.
+fn quantity_out(t: Terms) -> bool
+    ensures { λ r. ⌜ r ≡ quantityOut t ⌝ }
+{
+    let low = t.low;
+    let high = t.high;
+    let none = (DirectionTerms::of(low).quantity == 0) & (DirectionTerms::of(high).quantity == 0);
+    terms::above_1000_mw(low) | terms::above_1000_mw(high) | none
+}
+
+// Refusal 3.
+fn size_out(t: Terms, size: u32) -> bool
+    ensures { λ r. ⌜ r ≡ sizeOut t size ⌝ }
+{
+    let size = size as u64;
+    let both = DirectionTerms::of(t.low).rev + DirectionTerms::of(t.high).rev;
+    (10_000_000 < size) | (size < both)
+}
+
+// Refusal 4.
+fn first_out(t: Terms, size: u32, first: u32) -> bool
+    ensures { λ r. ⌜ r ≡ firstOut t size first ⌝ }
+{
+    let size = size as u64;
+    let first = first as u64;
+    (first < DirectionTerms::of(t.low).rev) | (size < first + DirectionTerms::of(t.high).rev)
+}
+
+// Whether none of the causes holds.
+fn opening_clear(t: Terms, curves: Curves, size: u32, first: u32) -> bool
+    ensures { λ r. ⌜ r ≡ clear (openingCauses t curves size first) ⌝ }
+{
+    !quantity_out(t)
+        & (!terms::limits_broken(t)
+            & (curves_hold(curves) & (!size_out(t, size) & !first_out(t, size, first))))
+}
+
+// No period closed.
+fn first_record(terms: Terms, curves: Curves, size: u32, first: u32) -> Record
+    ensures { λ r. ⌜ r ≡ firstRecord terms curves size first ⌝ }
+{
+    let none = Entries {
+        bounds: [0; 8],
+        starts: [0; 8],
+        scheds: [0; 8],
+    };
+    Record {
+        terms,
+        curves,
+        size,
+        first,
+        state: first,
+        closed: 0,
+        low: none,
+        high: none,
+        bought: 0,
+        sold: 0,
+        delivered: 0,
+        taken: 0,
+    }
+}
+
+// All zero.
+fn blank_record() -> Record
+    ensures { λ r. ⌜ r ≡ blankRecord ⌝ }
+{
+    let none = Quantities {
+        dc: 0,
+        dm: 0,
+        dr: 0,
+    };
+    let t = Terms {
+        low: none,
+        high: none,
+        export_limit: 0,
+        import_limit: 0,
+    };
+    let blank = Curve {
+        count: 0,
+        points: [Point {
+            deviation: 0,
+            share: 0,
+        }; 5],
+    };
+    let curves = Curves {
+        dc: blank,
+        dm: blank,
+        dr: blank,
+    };
+    first_record(t, curves, 0, 0)
+}
+
+fn refuse(answer: OpenAnswer) -> Opened
+    ensures { λ r. ⌜ r ≡ record { answer = answer; «record» = blankRecord } ⌝ }
+{
+    Opened {
+        answer,
+        record: blank_record(),
+    }
+}
+
+// Opens a record: refusals 1, 2, 5, 3, 4; a blank record stands beside a refusal.
+pub fn open_record(t: Terms, curves: Curves, size: u32, first: u32) -> Opened
+    ensures { λ r. ⌜ (openedOf r ≡ opening t curves size first) × (r .«record» ≡ orBlank blankRecord (opening t curves size first)) ⌝ }
+{
+    let quantity = quantity_out(t);
+    let power = terms::limits_broken(t);
+    let curves_good = curves_hold(curves);
+    let size_wrong = size_out(t, size);
+    let first_wrong = first_out(t, size, first);
+    if quantity {
+        return refuse(OpenAnswer::Quantity);
+    }
+    if power {
+        return refuse(OpenAnswer::Power);
+    }
+    if !curves_good {
+        return refuse(OpenAnswer::Curve);
+    }
+    if size_wrong {
+        return refuse(OpenAnswer::Size);
+    }
+    if first_wrong {
+        return refuse(OpenAnswer::State);
+    }
+    Opened {
+        answer: OpenAnswer::Open,
+        record: first_record(t, curves, size, first),
+    }
+}
+
+// ---- the record rule
+
+// The entries of one period, closed (done) or not, beside the start and the schedule of its bounds.
+fn entry_holds(
+    done: bool,
+    most: u64,
+    bound: u32,
+    requirement: i64,
+    schedule: u64,
+    start: i64,
+    sched: u64,
+) -> bool
+    ensures { λ r. ⌜ r ≡ cond done (leb bound most && (eqZ requirement start && eqb schedule sched)) (eqb bound 0 && (eqZ requirement (pos 0) && eqb schedule 0)) ⌝ }
+{
+    if done {
+        return (bound as u64 <= most) & (signed::same(requirement, start) & (schedule == sched));
+    }
+    (bound == 0) & (signed::same(requirement, 0) & (schedule == 0))
+}
+
+fn entries_hold(q: Quantities, closed: u32, entries: Entries) -> bool
+    ensures { λ r. ⌜ r ≡ entriesRule q closed entries ⌝ }
+{
+    let bounds = entries.bounds;
+    let starts = entries.starts;
+    let scheds = entries.scheds;
+    let most = 500 * DirectionTerms::of(q).quantity;
+    let rows = requirement::direction_table(q, bounds).rows;
+    let mut holds = true;
+    let mut i: usize = 0;
+    while i < 8 {
+        let done = i < closed as usize;
+        let row = rows[i];
+        holds = holds
+            & entry_holds(
+                done,
+                most,
+                bounds[i],
+                starts[i],
+                scheds[i],
+                row.start,
+                row.sched,
+            );
+        i += 1;
+    }
+    holds
+}
+
+fn sum_of(bounds: [u32; 8]) -> u64
+    ensures { λ r. ⌜ r ≡ sum bounds ⌝ }
+{
+    let mut total: u64 = 0;
+    let mut i: usize = 0;
+    while i < 8 {
+        total += bounds[i] as u64;
+        i += 1;
+    }
+    total
+}
+
+// Bought and sold against the periods closed, delivered and taken against the sums of the bounds.
+fn totals_within(
+    closed: u32,
+    bought: u32,
+    sold: u32,
+    delivered: u32,
+    taken: u32,
+    low: u64,
+    high: u64,
+) -> bool
+    ensures { λ r. ⌜ r ≡ (leb bought (10000000 * closed) && leb sold (10000000 * closed) && leb delivered low && leb taken high) ⌝ }
+{
+    let most = 10_000_000 * closed as u64;
+    (bought as u64 <= most)
+        & (sold as u64 <= most)
+        & (delivered as u64 <= low)
+        & (taken as u64 <= high)
+}
+
+fn totals_hold(given: Record) -> bool
+    ensures { λ r. ⌜ r ≡ totalsRule given ⌝ }
+{
+    let low = given.low;
+    let high = given.high;
+    let low_bounds = low.bounds;
+    let high_bounds = high.bounds;
+    totals_within(
+        given.closed,
+        given.bought,
+        given.sold,
+        given.delivered,
+        given.taken,
+        sum_of(low_bounds),
+        sum_of(high_bounds),
+    )
+}
+
+// The part above 0 of the start after the closed periods.
+fn next_start(q: Quantities, closed: u32, entries: Entries) -> u64
+    requires { ⌜ closed ≤ 8 ⌝ }
+    ensures { λ r. ⌜ r ≡ above (startAt q entries (suc closed)) ⌝ }
+{
+    let bounds = entries.bounds;
+    let table = requirement::direction_table(q, bounds);
+    if closed == 8 {
+        return signed::above_zero(table.start9);
+    }
+    let rows = table.rows;
+    let row = rows[closed as usize];
+    signed::above_zero(row.start)
+}
+
+// The state against the size and both starts, of which the parts above 0 are given.
+fn state_passes(state: u32, size: u32, low: u64, high: u64) -> bool
+    ensures { λ r. ⌜ r ≡ (leb state size && leb low state && leb high (size - state)) ⌝ }
+{
+    if size < state {
+        return false;
+    }
+    (low <= state as u64) & (high <= (size - state) as u64)
+}
+
+// state = first + bought − sold − delivered + taken
+fn balances(state: u32, first: u32, bought: u32, sold: u32, delivered: u32, taken: u32) -> bool
+    ensures { λ r. ⌜ r ≡ eqb (state + (sold + delivered)) (first + bought + taken) ⌝ }
+{
+    let lost = sold as u64 + delivered as u64;
+    state as u64 + lost == first as u64 + bought as u64 + taken as u64
+}
+
+fn state_holds(given: Record) -> bool
+    requires { ⌜ given .closed ≤ 8 ⌝ }
+    ensures { λ r. ⌜ r ≡ stateRule given ⌝ }
+{
+    let t = given.terms;
+    let low = t.low;
+    let high = t.high;
+    let low_entries = given.low;
+    let high_entries = given.high;
+    let low_start = next_start(low, given.closed, low_entries);
+    let high_start = next_start(high, given.closed, high_entries);
+    state_passes(given.state, given.size, low_start, high_start)
+        & balances(
+            given.state,
+            given.first,
+            given.bought,
+            given.sold,
+            given.delivered,
+            given.taken,
+        )
+}
+
+// Whether a record keeps the record rule, whatever its bits.
+pub fn record_holds(given: Record) -> bool
+    ensures { λ r. ⌜ r ≡ recordRule given ⌝ }
+{
+    let closed = given.closed;
+    if 8 < closed {
+        return false;
+    }
+    let t = given.terms;
+    let curves = given.curves;
+    let low = t.low;
+    let high = t.high;
+    let low_entries = given.low;
+    let high_entries = given.high;
+    opening_clear(t, curves, given.size, given.first)
+        & entries_hold(low, closed, low_entries)
+        & entries_hold(high, closed, high_entries)
+        & totals_hold(given)
+        & state_holds(given)
+}

@@ -1,0 +1,31 @@
+-- The greater of 0 and start + back, as a natural number. Assumes nothing.
+use mathlib.Core.Path.{_≡_, ap, _∙_}
+use Prim.Native.Nat.{ℕ, _+_, _-_, _≤_}
+use native.Mathlib.Omega.{arith}
+use lib.IntN.{pos, _+ℤ_}
+use Rattle.signed.specs.Sign.{above, below, greater}
+use Rattle.signed.proofs.Whole.{one-sided, sum, less}
+use Rattle.signed.proofs.Orders.{greater-zero}
+use Rattle.requirement.specs.Requirement.{start, back}
+use Rattle.requirement.proofs.Shortfall.{shortfall, start-is, back-le}
+
+module _ (REV ER : ℕ) (e : ℕ → ℕ) (i : ℕ) where
+  abbrev pub needed : ℕ
+  needed = above (start REV ER e i) + back ER e i - below (start REV ER e i)
+
+  pub needed-is : greater (pos 0) (start REV ER e i +ℤ pos (back ER e i)) ≡ pos needed
+  needed-is =
+      let s = start REV ER e i in
+      let z = s +ℤ pos (back ER e i) in
+      let p : above z ≡ needed = omega (arith, sum s (pos (back ER e i)), one-sided z) in
+      greater-zero z ∙ ap pos p
+
+  pub start-above : above (start REV ER e i) ≤ REV
+  start-above =
+      let is = start-is REV ER e i in
+      omega (arith, ap above is, ap below is, less (pos REV) (pos (shortfall ER e i)), one-sided (start REV ER e i))
+
+  pub needed-most : needed ≤ REV
+  needed-most =
+      let is = start-is REV ER e i in
+      omega (arith, ap above is, ap below is, less (pos REV) (pos (shortfall ER e i)), back-le ER e i)
