@@ -1,0 +1,16 @@
+-- `capability::in_range` meets its contract. Assumes nothing.
+use borrow.Author.Needs.{needs}
+use Rattle.capability.proofs.in_range.Statement.{statement}
+use Rattle.capability.proofs.in_range.Tie as tie
+
+below-zero-requires : tie.Need-below-zero-requires
+below-zero-requires c κs = search needs
+
+above-zero-requires : tie.Need-above-zero-requires
+above-zero-requires c κs = search needs
+
+returns : tie.Need-returns
+returns c = ?
+
+pub in-range-spec : {M : Type 1} → statement M
+in-range-spec = tie.close (tie.spec below-zero-requires above-zero-requires returns)

@@ -1,0 +1,19 @@
+-- `capability::room_of` meets its contract. Assumes nothing.
+use borrow.Author.Needs.{needs}
+use Rattle.capability.proofs.room_of.Statement.{statement}
+use Rattle.capability.proofs.room_of.Tie as tie
+
+headroom-of-requires : tie.Need-headroom-of-requires
+headroom-of-requires c κs = search needs
+
+returns : tie.Need-returns
+returns c = ?
+
+footroom-of-requires : tie.Need-footroom-of-requires
+footroom-of-requires c κs = search needs
+
+returns-2 : tie.Need-returns-2
+returns-2 c = ?
+
+pub room-of-spec : {M : Type 1} → statement M
+room-of-spec = tie.close (tie.spec headroom-of-requires returns footroom-of-requires returns-2)
