@@ -2,12 +2,12 @@
 ghost use mathlib.Core.Path.{_≡_};
 ghost use mathlib.Core.Bool.{true};
 ghost use mathlib.Core.List.{[], _∷_};
-ghost use Prim.Native.Nat.{_≤_, _<_, _/_};
+ghost use Prim.Native.Nat.{_+_, _/_, _≤_, _<_};
 ghost use lib.IntN.{pos, _-ℤ_};
 ghost use lib.Signed.{leZ};
 ghost use Rattle.common.specs.Fraction.{roundedDown};
 ghost use Rattle.common.specs.Lists.{every};
-ghost use Rattle.signed.specs.Sign.{above, eqZ};
+ghost use Rattle.signed.specs.Sign.{above, below, eqZ};
 ghost use Rattle.capability.specs.Capability.{inRange, limitsRule, wholeRange, headroom, footroom, directionRule, roomOf};
 ghost use Rattle.capability.specs.Capability.{pointInRange, rises, pointsRule, line, capabilityOf};
 ghost use Rattle.capability.specs.Capability.{answerOf, roomAnswer, capabilityAnswer, quantityAnswer};
@@ -48,28 +48,30 @@ fn in_range(z: i64) -> bool
 fn is_zero(z: i64) -> bool
     ensures { λ r. ⌜ r ≡ eqZ z (pos 0) ⌝ }
 {
-    (signed::above_zero(z) == 0) & (signed::below_zero(z) == 0)
+    (signed::below_zero(z) == 0) & (signed::above_zero(z) == 0)
 }
 
-// a ≤ b, by the parts above and below 0.
+// a raised by the parts of a and b below 0. With b raised alike, order and difference are kept and no sign is left.
+fn raised(a: i64, b: i64) -> u64
+    ensures { λ r. ⌜ r ≡ above a + below b ⌝ }
+{
+    signed::above_zero(a) + signed::below_zero(b)
+}
+
+// a ≤ b
 fn at_most(a: i64, b: i64) -> bool
     ensures { λ r. ⌜ r ≡ leZ a b ⌝ }
 {
-    let up = signed::above_zero(a) + signed::below_zero(b);
-    let down = signed::above_zero(b) + signed::below_zero(a);
-    up <= down
+    raised(a, b) <= raised(b, a)
 }
 
 // By how much a is above b; 0 if it is not.
 fn excess(a: i64, b: i64) -> u64
     ensures { λ r. ⌜ r ≡ above (a -ℤ b) ⌝ }
 {
-    let up = signed::above_zero(a) + signed::below_zero(b);
-    let down = signed::above_zero(b) + signed::below_zero(a);
-    if up <= down {
-        return 0;
-    }
-    up - down
+    let from = raised(b, a);
+    let to = raised(a, b);
+    to - common::smaller(from, to)
 }
 
 fn each_in_range(l: Limits) -> bool
@@ -95,16 +97,27 @@ fn whole_range(l: Limits) -> bool
     is_zero(l.sel) & is_zero(l.sil)
 }
 
+// OL ≥ SEL
+fn at_or_above_sel(l: Limits) -> bool
+    ensures { λ r. ⌜ r ≡ leZ (l .sel) (l .ol) ⌝ }
+{
+    at_most(l.sel, l.ol)
+}
+
+// OL ≤ SIL
+fn at_or_below_sil(l: Limits) -> bool
+    ensures { λ r. ⌜ r ≡ leZ (l .ol) (l .sil) ⌝ }
+{
+    at_most(l.ol, l.sil)
+}
+
 fn headroom_of(l: Limits) -> u64
     ensures { λ r. ⌜ r ≡ above (headroom l) ⌝ }
 {
-    let whole = whole_range(l);
-    let exporting = at_most(l.sel, l.ol);
-    let importing = at_most(l.ol, l.sil);
-    if whole | exporting {
+    if whole_range(l) | at_or_above_sel(l) {
         return excess(l.mel, l.ol);
     }
-    if importing {
+    if at_or_below_sil(l) {
         return excess(l.sil, l.ol);
     }
     0
@@ -113,13 +126,10 @@ fn headroom_of(l: Limits) -> u64
 fn footroom_of(l: Limits) -> u64
     ensures { λ r. ⌜ r ≡ above (footroom l) ⌝ }
 {
-    let whole = whole_range(l);
-    let exporting = at_most(l.sel, l.ol);
-    let importing = at_most(l.ol, l.sil);
-    if whole | importing {
+    if whole_range(l) | at_or_below_sil(l) {
         return excess(l.ol, l.mil);
     }
-    if exporting {
+    if at_or_above_sel(l) {
         return excess(l.ol, l.sel);
     }
     0

@@ -1,37 +1,19 @@
 -- `capability::at_most` meets its contract. Assumes nothing.
 use borrow.Author.Needs.{needs}
+use mir.Facts.{toZ-ofZ}
+use Rattle.capability.proofs.Parts.{order-parts}
 use Rattle.capability.proofs.at_most.Statement.{statement}
 use Rattle.capability.proofs.at_most.Tie as tie
+raised-requires : tie.Need-raised-requires
+raised-requires c κs = search needs
 
-above-zero-requires : tie.Need-above-zero-requires
-above-zero-requires c κs = search needs
-
-below-zero-requires : tie.Need-below-zero-requires
-below-zero-requires c κs = search needs
-
-add-up : tie.Need-add-up
-add-up c = ?
-
-above-zero-requires-2 : tie.Need-above-zero-requires-2
-above-zero-requires-2 c κs = search needs
-
-below-zero-requires-2 : tie.Need-below-zero-requires-2
-below-zero-requires-2 c κs = search needs
-
-add-down : tie.Need-add-down
-add-down c = ?
+raised-requires-2 : tie.Need-raised-requires-2
+raised-requires-2 c κs = search needs
 
 returns : tie.Need-returns
-returns c = ?
+returns c =
+    let s = c .before .before in
+    rw (c .before .raised .ensures, c .raised2 .ensures, toZ-ofZ (s .fits .a), toZ-ofZ (s .fits .b)) (order-parts (s .args .a) (s .args .b))
 
 pub at-most-spec : {M : Type 1} → statement M
-at-most-spec =
-    tie.close
-    (tie.spec
-    above-zero-requires
-    below-zero-requires
-    add-up
-    above-zero-requires-2
-    below-zero-requires-2
-    add-down
-    returns)
+at-most-spec = tie.close (tie.spec raised-requires raised-requires-2 returns)

@@ -1,8 +1,11 @@
 -- `capability::each_in_range` meets its contract. Assumes nothing.
-use borrow.Author.Needs.{needs}
+use mathlib.Core.Bool.{and-true}
+use borrow.Author.Needs.{needs, sfits-of}
+use mir.Facts.{toZ-ofZ}
+use Rattle.common.specs.Lists.{every}
+use Rattle.capability.specs.Capability.{inRange}
 use Rattle.capability.proofs.each_in_range.Statement.{statement}
 use Rattle.capability.proofs.each_in_range.Tie as tie
-
 in-range-requires : tie.Need-in-range-requires
 in-range-requires c κs = search needs
 
@@ -19,7 +22,23 @@ in-range-requires-5 : tie.Need-in-range-requires-5
 in-range-requires-5 c κs = search needs
 
 returns : tie.Need-returns
-returns c = ?
+unfolding every
+returns c =
+    let told = c .before .struct-told5 .given in
+    let l = c .before .before .before .before .before .before .before .before .before .before .args .l in
+    rw (
+      c .in-range5 .ensures,
+      c .before .before .in-range4 .ensures,
+      c .before .before .before .before .in-range3 .ensures,
+      c .before .before .before .before .before .before .in-range2 .ensures,
+      c .before .before .before .before .before .before .before .before .in-range .ensures,
+      toZ-ofZ {z = l .mil} (sfits-of (told .0 .1)),
+      toZ-ofZ {z = l .sil} (sfits-of (told .1 .0 .1)),
+      toZ-ofZ {z = l .sel} (sfits-of (told .1 .1 .0 .1)),
+      toZ-ofZ {z = l .mel} (sfits-of (told .1 .1 .1 .0 .1)),
+      toZ-ofZ {z = l .ol} (sfits-of (told .1 .1 .1 .1 .0 .1)),
+      and-true (inRange (l .ol)),
+    )
 
 pub each-in-range-spec : {M : Type 1} → statement M
 each-in-range-spec =

@@ -1,41 +1,57 @@
 -- `capability::footroom_of` meets its contract. Assumes nothing.
-use borrow.Author.Needs.{needs}
+use borrow.Author.Needs.{needs, sfits-of}
+use mir.Facts.{toZ-ofZ}
+use Rattle.capability.specs.Capability.{footroom}
 use Rattle.capability.proofs.footroom_of.Statement.{statement}
 use Rattle.capability.proofs.footroom_of.Tie as tie
-
 whole-range-requires : tie.Need-whole-range-requires
 whole-range-requires c κs = search needs
 
-at-most-requires : tie.Need-at-most-requires
-at-most-requires c κs = search needs
-
-at-most-requires-2 : tie.Need-at-most-requires-2
-at-most-requires-2 c κs = search needs
+at-or-below-sil-requires : tie.Need-at-or-below-sil-requires
+at-or-below-sil-requires c κs = search needs
 
 excess-requires : tie.Need-excess-requires
 excess-requires c κs = search needs
 
 returns : tie.Need-returns
-returns c = ?
+unfolding footroom
+returns c =
+    let told = c .before .struct-told2 .given in
+    let t = c .before .before .before .before in
+    let l = t .before .before .args .l in
+    rw (c .excess .ensures, toZ-ofZ {z = l .ol} (sfits-of (told .1 .1 .1 .1 .0 .1)), toZ-ofZ {z = l .mil} (sfits-of (told .0 .1)), ← t .before .whole-range .ensures, ← t .at-or-below-sil .ensures, c .before .before .before .if1 .taken)
+
+at-or-above-sel-requires : tie.Need-at-or-above-sel-requires
+at-or-above-sel-requires c κs = search needs
 
 excess-requires-2 : tie.Need-excess-requires-2
 excess-requires-2 c κs = search needs
 
 returns-2 : tie.Need-returns-2
-returns-2 c = ?
+unfolding footroom
+returns-2 c =
+    let told = c .before .struct-told4 .given in
+    let u = c .before .before .before .before in
+    let t = u .before .before in
+    let l = t .before .before .args .l in
+    rw (c .excess2 .ensures, toZ-ofZ {z = l .ol} (sfits-of (told .1 .1 .1 .1 .0 .1)), toZ-ofZ {z = l .sel} (sfits-of (told .1 .1 .0 .1)), ← t .before .whole-range .ensures, ← t .at-or-below-sil .ensures, ← u .at-or-above-sel .ensures, u .before .if1 .left, c .before .before .before .if2 .taken)
 
 returns-3 : tie.Need-returns-3
-returns-3 c = ?
+unfolding footroom
+returns-3 c =
+    let u = c .before in
+    let t = u .before .before in
+    rw (← t .before .whole-range .ensures, ← t .at-or-below-sil .ensures, ← u .at-or-above-sel .ensures, u .before .if1 .left, c .if2 .left)
 
 pub footroom-of-spec : {M : Type 1} → statement M
 footroom-of-spec =
     tie.close
     (tie.spec
     whole-range-requires
-    at-most-requires
-    at-most-requires-2
+    at-or-below-sil-requires
     excess-requires
     returns
+    at-or-above-sel-requires
     excess-requires-2
     returns-2
     returns-3)

@@ -1,8 +1,9 @@
 -- `capability::limits_hold` meets its contract. Assumes nothing.
-use borrow.Author.Needs.{needs}
+use borrow.Author.Needs.{needs, sfits-of}
+use mir.Facts.{toZ-ofZ}
+use Rattle.capability.specs.Capability.{limitsRule}
 use Rattle.capability.proofs.limits_hold.Statement.{statement}
 use Rattle.capability.proofs.limits_hold.Tie as tie
-
 each-in-range-requires : tie.Need-each-in-range-requires
 each-in-range-requires c κs = search needs
 
@@ -25,7 +26,30 @@ at-most-requires-6 : tie.Need-at-most-requires-6
 at-most-requires-6 c κs = search needs
 
 returns : tie.Need-returns
-returns c = ?
+unfolding limitsRule
+returns c =
+    let c5 = c .before .before .before in
+    let c4 = c5 .before .before .before in
+    let c3 = c4 .before .before .before in
+    let c2 = c3 .before .before in
+    let c1 = c2 .before .before in
+    let told = c1 .before .struct-told2 .given in
+    let s = c1 .before .before .before in
+    let l = s .before .args .l in
+    rw (
+      c .at-most6 .ensures,
+      c5 .at-most5 .ensures,
+      c4 .at-most4 .ensures,
+      c3 .at-most3 .ensures,
+      c2 .at-most2 .ensures,
+      c1 .at-most .ensures,
+      s .each-in-range .ensures,
+      toZ-ofZ {z = l .mil} (sfits-of (told .0 .1)),
+      toZ-ofZ {z = l .sil} (sfits-of (told .1 .0 .1)),
+      toZ-ofZ {z = l .sel} (sfits-of (told .1 .1 .0 .1)),
+      toZ-ofZ {z = l .mel} (sfits-of (told .1 .1 .1 .0 .1)),
+      toZ-ofZ {z = l .ol} (sfits-of (told .1 .1 .1 .1 .0 .1)),
+    )
 
 pub limits-hold-spec : {M : Type 1} → statement M
 limits-hold-spec =

@@ -1,8 +1,8 @@
 -- `capability::whole_range` meets its contract. Assumes nothing.
-use borrow.Author.Needs.{needs}
+use borrow.Author.Needs.{needs, sfits-of}
+use mir.Facts.{toZ-ofZ}
 use Rattle.capability.proofs.whole_range.Statement.{statement}
 use Rattle.capability.proofs.whole_range.Tie as tie
-
 is-zero-requires : tie.Need-is-zero-requires
 is-zero-requires c κs = search needs
 
@@ -10,7 +10,10 @@ is-zero-requires-2 : tie.Need-is-zero-requires-2
 is-zero-requires-2 c κs = search needs
 
 returns : tie.Need-returns
-returns c = ?
+returns c =
+    let told = c .before .struct-told2 .given in
+    let l = c .before .before .before .before .args .l in
+    rw (c .is-zero2 .ensures, c .before .before .is-zero .ensures, toZ-ofZ {z = l .sel} (sfits-of (told .1 .1 .0 .1)), toZ-ofZ {z = l .sil} (sfits-of (told .1 .0 .1)))
 
 pub whole-range-spec : {M : Type 1} → statement M
 whole-range-spec = tie.close (tie.spec is-zero-requires is-zero-requires-2 returns)
