@@ -2,7 +2,7 @@
 ghost use mathlib.Core.Path.{_≡_};
 ghost use mathlib.Core.Bool.{true};
 ghost use mathlib.Core.List.{[], _∷_};
-ghost use Prim.Native.Nat.{_+_, _/_, _≤_, _<_};
+ghost use Prim.Native.Nat.{_+_, _/_, _^_, _≤_, _<_};
 ghost use lib.IntN.{pos, _-ℤ_};
 ghost use lib.Signed.{leZ};
 ghost use Rattle.common.specs.Fraction.{roundedDown};
@@ -166,7 +166,7 @@ fn points_hold(ps: Points) -> bool
     ensures { λ r. ⌜ r ≡ pointsRule ps ⌝ }
 {
     let count = ps.count as usize;
-    if (count < 2) | (5 < count) {
+    if !((2 <= count) & (count <= 5)) {
         return false;
     }
     let points = ps.points;
@@ -187,7 +187,7 @@ fn points_hold(ps: Points) -> bool
 }
 
 fn rounded_down(numerator: u64, denominator: u64) -> u64
-    requires { ⌜ (numerator < 9223372036854775808) × (0 < denominator) × (denominator < 9223372036854775808) ⌝ }
+    requires { ⌜ (numerator < 2 ^ 63) × (0 < denominator) × (denominator < 2 ^ 63) ⌝ }
     ensures { λ r. ⌜ r ≡ numerator / denominator ⌝ }
 {
     numerator / denominator
@@ -195,7 +195,7 @@ fn rounded_down(numerator: u64, denominator: u64) -> u64
 
 // The line through two points, rounded down.
 fn on_line(p: Point, q: Point, room: u32) -> u64
-    requires { ⌜ (p .room < q .room) × (p .capability ≤ q .capability) × (q .capability ≤ 4000000) × (p .room ≤ room) ⌝ }
+    requires { ⌜ (p .room < q .room) × (q .room ≤ 4000000) × (p .capability ≤ q .capability) × (q .capability ≤ 4000000) × (p .room ≤ room) ⌝ }
     ensures { λ r. ⌜ r ≡ roundedDown (line p q room) ⌝ }
 {
     let width = (q.room - p.room) as u64;

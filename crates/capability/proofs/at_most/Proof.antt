@@ -4,6 +4,7 @@ use mir.Facts.{toZ-ofZ}
 use Rattle.capability.proofs.Parts.{order-parts}
 use Rattle.capability.proofs.at_most.Statement.{statement}
 use Rattle.capability.proofs.at_most.Tie as tie
+
 raised-requires : tie.Need-raised-requires
 raised-requires c κs = search needs
 

@@ -6,6 +6,7 @@ use Rattle.common.specs.Lists.{every}
 use Rattle.capability.specs.Capability.{inRange}
 use Rattle.capability.proofs.each_in_range.Statement.{statement}
 use Rattle.capability.proofs.each_in_range.Tie as tie
+
 in-range-requires : tie.Need-in-range-requires
 in-range-requires c κs = search needs
 

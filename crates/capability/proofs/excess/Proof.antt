@@ -4,6 +4,7 @@ use mir.Facts.{toZ-ofZ}
 use Rattle.capability.proofs.Parts.{excess-parts}
 use Rattle.capability.proofs.excess.Statement.{statement}
 use Rattle.capability.proofs.excess.Tie as tie
+
 raised-requires : tie.Need-raised-requires
 raised-requires c κs = search needs
 

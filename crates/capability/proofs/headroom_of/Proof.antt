@@ -4,6 +4,7 @@ use mir.Facts.{toZ-ofZ}
 use Rattle.capability.specs.Capability.{headroom}
 use Rattle.capability.proofs.headroom_of.Statement.{statement}
 use Rattle.capability.proofs.headroom_of.Tie as tie
+
 whole-range-requires : tie.Need-whole-range-requires
 whole-range-requires c κs = search needs
 

@@ -4,6 +4,7 @@ use mir.Facts.{toZ-ofZ}
 use Rattle.capability.proofs.Parts.{in-range-parts}
 use Rattle.capability.proofs.in_range.Statement.{statement}
 use Rattle.capability.proofs.in_range.Tie as tie
+
 below-zero-requires : tie.Need-below-zero-requires
 below-zero-requires c κs = search needs
 

@@ -4,6 +4,7 @@ use mir.Facts.{toZ-ofZ}
 use Rattle.capability.proofs.Parts.{zero-parts}
 use Rattle.capability.proofs.is_zero.Statement.{statement}
 use Rattle.capability.proofs.is_zero.Tie as tie
+
 below-zero-requires : tie.Need-below-zero-requires
 below-zero-requires c κs = search needs
 

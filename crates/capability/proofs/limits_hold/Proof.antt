@@ -4,6 +4,7 @@ use mir.Facts.{toZ-ofZ}
 use Rattle.capability.specs.Capability.{limitsRule}
 use Rattle.capability.proofs.limits_hold.Statement.{statement}
 use Rattle.capability.proofs.limits_hold.Tie as tie
+
 each-in-range-requires : tie.Need-each-in-range-requires
 each-in-range-requires c κs = search needs
 

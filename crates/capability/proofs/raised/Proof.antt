@@ -5,6 +5,7 @@ use mir.Facts.{toZ-ofZ}
 use Rattle.capability.proofs.Parts.{above-most, below-most}
 use Rattle.capability.proofs.raised.Statement.{statement}
 use Rattle.capability.proofs.raised.Tie as tie
+
 above-zero-requires : tie.Need-above-zero-requires
 above-zero-requires c κs = search needs
 

@@ -3,6 +3,7 @@ use borrow.Author.Needs.{needs, sfits-of}
 use mir.Facts.{toZ-ofZ}
 use Rattle.capability.proofs.whole_range.Statement.{statement}
 use Rattle.capability.proofs.whole_range.Tie as tie
+
 is-zero-requires : tie.Need-is-zero-requires
 is-zero-requires c κs = search needs
 
