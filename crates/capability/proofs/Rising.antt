@@ -1,46 +1,17 @@
--- The points that are counted: what their rule says of each, and the loop of `points_hold`. Assumes nothing.
+-- The points that are counted, and the loop of `points_hold` that tests their rule. Assumes nothing.
 use mathlib.Core.Path.{_≡_, _∙_}
 use mathlib.Core.Bool.{true, false, _&&_, and-eq-true-iff}
 use mathlib.Core.List.{List, [], _∷_}
 use Prim.Native.Nat.{ℕ, _+_, _≤_, _<_}
 use native.Mathlib.Numerals.{add-one}
 use native.Mathlib.Omega.{arith}
-use borrow.Author.Tests.{eq-eqb, ne-eqb, leb-true, ltb-true}
-use lib.Dec.{leb, ltb}
+use borrow.Author.Tests.{eq-eqb, ne-eqb, leb-true}
+use lib.Dec.{leb}
 use lib.ListN.{length, drop, take, getD, length-take, drop-of-length-le}
 use lib.Seq.{drop-cons, getD-take}
 use Rattle.capability.specs.Capability.{pointsOf, pointInRange, rises, risesFrom, listRule, pointsRule}
 use Rattle.capability.specs.declared.Point.{Point}
 use Rattle.capability.specs.declared.Points.{Points}
-
--- ---- what the rule says
-
-pub record InRange (p : Point) : Type 0 where
-  pub room-le : p .room ≤ 4000000
-  pub capability-le : p .capability ≤ 4000000
-
-pub record Rises (p q : Point) : Type 0 where
-  pub farther : p .room < q .room
-  pub no-less : p .capability ≤ q .capability
-
-in-range : (p : Point) → pointInRange p ≡ true → InRange p
-in-range p e =
-    let b = and-eq-true-iff (leb (p .room) 4000000) (leb (p .capability) 4000000) .0 e in
-    record { room-le = leb-true _ _ (b .0); capability-le = leb-true _ _ (b .1) }
-
-pub range : (p : Point) (ps : List Point) → risesFrom p ps ≡ true → InRange p
-unfolding risesFrom
-range p [] e = in-range p e
-range p (q ∷ ps) e =
-    in-range p (and-eq-true-iff (pointInRange p) (rises p q) .0 (and-eq-true-iff (pointInRange p && rises p q) (risesFrom q ps) .0 e .0) .0)
-
-pub rises-next : (p q : Point) (ps : List Point) → risesFrom p (q ∷ ps) ≡ true → Rises p q × (risesFrom q ps ≡ true)
-unfolding risesFrom
-rises-next p q ps e =
-    let b = and-eq-true-iff (pointInRange p && rises p q) (risesFrom q ps) .0 e in
-    let r = and-eq-true-iff (pointInRange p) (rises p q) .0 (b .0) in
-    let s = and-eq-true-iff (ltb (p .room) (q .room)) (leb (p .capability) (q .capability)) .0 (r .1) in
-    (record { farther = ltb-true _ _ (s .0); no-less = leb-true _ _ (s .1) }, b .1)
 
 -- ---- the points that are counted, from the i-th on
 

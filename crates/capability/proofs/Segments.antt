@@ -1,35 +1,58 @@
 -- The segment of a room, and the loop of `capability_of` that looks for it. Assumes nothing.
-use mathlib.Core.Path.{_≡_, subst, _∙_}
-use mathlib.Core.Bool.{true, false, _&&_, and-eq-true-iff}
-use mathlib.Core.List.{List, _∷_}
+use mathlib.Core.Path.{_≡_, _∙_}
+use mathlib.Core.Bool.{true, _&&_, and-eq-true-iff}
+use mathlib.Core.List.{List, [], _∷_}
 use Prim.Native.Nat.{ℕ, _+_, _≤_, _<_}
 use native.Mathlib.Omega.{arith}
-use borrow.Author.Tests.{le-leb, lt-leb, eqb-true}
-use lib.Dec.{leb, eqb}
+use borrow.Author.Tests.{le-leb, lt-leb, leb-true, ltb-true, eqb-true}
+use lib.Dec.{leb, ltb, eqb}
 use lib.ListN.{length, take}
-use Rattle.capability.specs.Capability.{pointsOf, risesFrom, listRule, pointsRule, line, capabilityFrom, capabilityAt}
+use Rattle.capability.specs.Capability.{pointsOf, pointInRange, rises, risesFrom, listRule, pointsRule, line, capabilityFrom, capabilityAt}
 use Rattle.capability.specs.declared.Point.{Point}
 use Rattle.capability.specs.declared.Points.{Points}
-use Rattle.capability.proofs.Rising.{range, rises-next, at, rest, next, none-left, count-range}
+use Rattle.capability.proofs.Rising.{at, rest, next, none-left, count-range}
+
+-- ---- what the rule says of two points that follow each other, before the points ps
+
+pub record Segment (p q : Point) (ps : List Point) : Type 0 where
+  pub farther : p .room < q .room
+  pub no-less : p .capability ≤ q .capability
+  pub room-most : q .room ≤ 4000000
+  pub capability-most : q .capability ≤ 4000000
+  pub onward : risesFrom q ps ≡ true
+
+first-test : (p : Point) (ps : List Point) → risesFrom p ps ≡ true → pointInRange p ≡ true
+unfolding risesFrom
+first-test p [] e = e
+first-test p (q ∷ ps) e = and-eq-true-iff (pointInRange p) (rises p q) .0 (and-eq-true-iff (pointInRange p && rises p q) (risesFrom q ps) .0 e .0) .0
+
+segment : (p q : Point) (ps : List Point) → risesFrom p (q ∷ ps) ≡ true → Segment p q ps
+unfolding risesFrom
+segment p q ps e =
+    let tests = and-eq-true-iff (pointInRange p && rises p q) (risesFrom q ps) .0 e in
+    let rise = and-eq-true-iff (pointInRange p) (rises p q) .0 (tests .0) in
+    let higher = and-eq-true-iff (ltb (p .room) (q .room)) (leb (p .capability) (q .capability)) .0 (rise .1) in
+    let range = and-eq-true-iff (leb (q .room) 4000000) (leb (q .capability) 4000000) .0 (first-test q ps (tests .1)) in
+    record {
+      farther = ltb-true _ _ (higher .0);
+      no-less = leb-true _ _ (higher .1);
+      room-most = leb-true _ _ (range .0);
+      capability-most = leb-true _ _ (range .1);
+      onward = tests .1;
+    }
+
+-- ---- the loop: the room is past the point p, and the points from q on decide
 
 module _ (count : ℕ) (points : List Point) (room : ℕ) where
-  -- the room is past the point p, and the points from q on decide
   pub record Reached (p q : Point) (i : ℕ) : Type 0 where
     pub within : i ≤ count
     pub most : count ≤ 5
     pub long : length points ≡ 5
-    pub rule : risesFrom p (q ∷ rest count points i) ≡ true
+    pub segments : Segment p q (rest count points i)
     pub past : p .room ≤ room
     pub same : capabilityAt (take count points) room ≡ capabilityFrom p q (rest count points i) room
 
   module _ {p q : Point} {i : ℕ} (r : Reached p q i) where
-    -- what `on_line` requires
-    pub on-line : (p .room < q .room) × (q .room ≤ 4000000) × (p .capability ≤ q .capability) × (q .capability ≤ 4000000) × (p .room ≤ room)
-    on-line =
-        let n = rises-next p q (rest count points i) (r .rule) in
-        let q-range = range q (rest count points i) (n .1) in
-        (n .0 .farther, q-range .room-le, n .0 .no-less, q-range .capability-le, r .past)
-
     pub last-two : count ≤ i → capabilityAt (take count points) room ≡ line p q room
     unfolding capabilityFrom
     last-two h = r .same ∙ (rw (none-left count points i h))
@@ -49,7 +72,7 @@ module _ (count : ℕ) (points : List Point) (room : ℕ) where
             within = omega arith;
             most = r .most;
             long = r .long;
-            rule = rw there at (rises-next p q (rest count points i) (r .rule) .1);
+            segments = segment q (at points i) (rest count points (i + 1)) (rw there at (r .segments .onward));
             past = omega arith;
             same = r .same ∙ (rw (there, lt-leb room (q .room) b));
           }
@@ -68,7 +91,7 @@ begin ps room rule long =
       within = b .0;
       most = b .1;
       long = long;
-      rule = tests .1;
+      segments = segment (at points 0) (at points 1) (rest n points 2) (tests .1);
       past = omega (arith, eqb-true (at points 0 .room) 0 (tests .0));
       same = rw (first, second);
     }

@@ -1,6 +1,6 @@
 -- `capability::at_or_above_sel` meets its contract. Assumes nothing.
-use borrow.Author.Needs.{needs, sfits-of}
-use mir.Facts.{toZ-ofZ}
+use borrow.Author.Needs.{needs}
+use Rattle.capability.proofs.Fields.{fields}
 use Rattle.capability.proofs.at_or_above_sel.Statement.{statement}
 use Rattle.capability.proofs.at_or_above_sel.Tie as tie
 
@@ -8,10 +8,7 @@ at-most-requires : tie.Need-at-most-requires
 at-most-requires c κs = search needs
 
 returns : tie.Need-returns
-returns c =
-    let told = c .before .struct-told2 .given in
-    let l = c .before .before .before .args .l in
-    rw (c .at-most .ensures, toZ-ofZ {z = l .sel} (sfits-of (told .1 .1 .0 .1)), toZ-ofZ {z = l .ol} (sfits-of (told .1 .1 .1 .1 .0 .1)))
+returns c = let f = fields (c .before .before .before .args .l) (c .before .struct-told2 .given) in rw (c .at-most .ensures, f .sel, f .ol)
 
 pub at-or-above-sel-spec : {M : Type 1} → statement M
 at-or-above-sel-spec = tie.close (tie.spec at-most-requires returns)

@@ -6,7 +6,7 @@ use borrow.Author.Needs.{needs}
 use lib.ListN.{length, length-map}
 use Rattle.common.specs.Fraction.{roundedDown}
 use Rattle.capability.specs.Capability.{capabilityOf}
-use Rattle.capability.proofs.Segments.{Reached, begin, on-line, here, farther-on, last-two}
+use Rattle.capability.proofs.Segments.{Reached, begin, here, farther-on, last-two}
 use Rattle.capability.proofs.capability_of.Statement.{statement}
 use Rattle.capability.proofs.capability_of.Tie as tie
 
@@ -40,7 +40,7 @@ array-copy-out-next : tie.Need-array-copy-out-next Inv-loop μ-loop
 array-copy-out-next c = omega arith
 
 on-line-requires : tie.Need-on-line-requires Inv-loop μ-loop
-on-line-requires c κs = on-line _ _ _ (c .before .before .before .before .loop .inv)
+on-line-requires c κs = omega arith
 
 returns : tie.Need-returns Inv-loop μ-loop
 unfolding capabilityOf
@@ -60,7 +60,7 @@ loop-again c =
     farther-on _ _ _ (t .before .loop .inv) (t .loop-test .taken) (c .if1 .left)
 
 on-line-requires-2 : tie.Need-on-line-requires-2 Inv-loop μ-loop
-on-line-requires-2 c κs = on-line _ _ _ (c .before .loop .inv)
+on-line-requires-2 c κs = omega arith
 
 returns-2 : tie.Need-returns-2 Inv-loop μ-loop
 unfolding capabilityOf

@@ -1,9 +1,9 @@
 -- `capability::each_in_range` meets its contract. Assumes nothing.
 use mathlib.Core.Bool.{and-true}
-use borrow.Author.Needs.{needs, sfits-of}
-use mir.Facts.{toZ-ofZ}
+use borrow.Author.Needs.{needs}
 use Rattle.common.specs.Lists.{every}
 use Rattle.capability.specs.Capability.{inRange}
+use Rattle.capability.proofs.Fields.{fields}
 use Rattle.capability.proofs.each_in_range.Statement.{statement}
 use Rattle.capability.proofs.each_in_range.Tie as tie
 
@@ -25,19 +25,19 @@ in-range-requires-5 c κs = search needs
 returns : tie.Need-returns
 unfolding every
 returns c =
-    let told = c .before .struct-told5 .given in
     let l = c .before .before .before .before .before .before .before .before .before .before .args .l in
+    let f = fields l (c .before .struct-told5 .given) in
     rw (
       c .in-range5 .ensures,
       c .before .before .in-range4 .ensures,
       c .before .before .before .before .in-range3 .ensures,
       c .before .before .before .before .before .before .in-range2 .ensures,
       c .before .before .before .before .before .before .before .before .in-range .ensures,
-      toZ-ofZ {z = l .mil} (sfits-of (told .0 .1)),
-      toZ-ofZ {z = l .sil} (sfits-of (told .1 .0 .1)),
-      toZ-ofZ {z = l .sel} (sfits-of (told .1 .1 .0 .1)),
-      toZ-ofZ {z = l .mel} (sfits-of (told .1 .1 .1 .0 .1)),
-      toZ-ofZ {z = l .ol} (sfits-of (told .1 .1 .1 .1 .0 .1)),
+      f .mil,
+      f .sil,
+      f .sel,
+      f .mel,
+      f .ol,
       and-true (inRange (l .ol)),
     )
 

@@ -1,7 +1,7 @@
 -- `capability::headroom_of` meets its contract. Assumes nothing.
-use borrow.Author.Needs.{needs, sfits-of}
-use mir.Facts.{toZ-ofZ}
+use borrow.Author.Needs.{needs}
 use Rattle.capability.specs.Capability.{headroom}
+use Rattle.capability.proofs.Fields.{fields}
 use Rattle.capability.proofs.headroom_of.Statement.{statement}
 use Rattle.capability.proofs.headroom_of.Tie as tie
 
@@ -17,10 +17,9 @@ excess-requires c κs = search needs
 returns : tie.Need-returns
 unfolding headroom
 returns c =
-    let told = c .before .struct-told2 .given in
     let t = c .before .before .before .before in
-    let l = t .before .before .args .l in
-    rw (c .excess .ensures, toZ-ofZ {z = l .mel} (sfits-of (told .1 .1 .1 .0 .1)), toZ-ofZ {z = l .ol} (sfits-of (told .1 .1 .1 .1 .0 .1)), ← t .before .whole-range .ensures, ← t .at-or-above-sel .ensures, c .before .before .before .if1 .taken)
+    let f = fields (t .before .before .args .l) (c .before .struct-told2 .given) in
+    rw (c .excess .ensures, f .mel, f .ol, ← t .before .whole-range .ensures, ← t .at-or-above-sel .ensures, c .before .before .before .if1 .taken)
 
 at-or-below-sil-requires : tie.Need-at-or-below-sil-requires
 at-or-below-sil-requires c κs = search needs
@@ -31,11 +30,10 @@ excess-requires-2 c κs = search needs
 returns-2 : tie.Need-returns-2
 unfolding headroom
 returns-2 c =
-    let told = c .before .struct-told4 .given in
     let u = c .before .before .before .before in
     let t = u .before .before in
-    let l = t .before .before .args .l in
-    rw (c .excess2 .ensures, toZ-ofZ {z = l .sil} (sfits-of (told .1 .0 .1)), toZ-ofZ {z = l .ol} (sfits-of (told .1 .1 .1 .1 .0 .1)), ← t .before .whole-range .ensures, ← t .at-or-above-sel .ensures, ← u .at-or-below-sil .ensures, u .before .if1 .left, c .before .before .before .if2 .taken)
+    let f = fields (t .before .before .args .l) (c .before .struct-told4 .given) in
+    rw (c .excess2 .ensures, f .sil, f .ol, ← t .before .whole-range .ensures, ← t .at-or-above-sel .ensures, ← u .at-or-below-sil .ensures, u .before .if1 .left, c .before .before .before .if2 .taken)
 
 returns-3 : tie.Need-returns-3
 unfolding headroom

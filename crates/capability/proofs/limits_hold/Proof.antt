@@ -1,7 +1,7 @@
 -- `capability::limits_hold` meets its contract. Assumes nothing.
-use borrow.Author.Needs.{needs, sfits-of}
-use mir.Facts.{toZ-ofZ}
+use borrow.Author.Needs.{needs}
 use Rattle.capability.specs.Capability.{limitsRule}
+use Rattle.capability.proofs.Fields.{fields}
 use Rattle.capability.proofs.limits_hold.Statement.{statement}
 use Rattle.capability.proofs.limits_hold.Tie as tie
 
@@ -34,9 +34,8 @@ returns c =
     let c3 = c4 .before .before .before in
     let c2 = c3 .before .before in
     let c1 = c2 .before .before in
-    let told = c1 .before .struct-told2 .given in
     let s = c1 .before .before .before in
-    let l = s .before .args .l in
+    let f = fields (s .before .args .l) (c1 .before .struct-told2 .given) in
     rw (
       c .at-most6 .ensures,
       c5 .at-most5 .ensures,
@@ -45,11 +44,11 @@ returns c =
       c2 .at-most2 .ensures,
       c1 .at-most .ensures,
       s .each-in-range .ensures,
-      toZ-ofZ {z = l .mil} (sfits-of (told .0 .1)),
-      toZ-ofZ {z = l .sil} (sfits-of (told .1 .0 .1)),
-      toZ-ofZ {z = l .sel} (sfits-of (told .1 .1 .0 .1)),
-      toZ-ofZ {z = l .mel} (sfits-of (told .1 .1 .1 .0 .1)),
-      toZ-ofZ {z = l .ol} (sfits-of (told .1 .1 .1 .1 .0 .1)),
+      f .mil,
+      f .sil,
+      f .sel,
+      f .mel,
+      f .ol,
     )
 
 pub limits-hold-spec : {M : Type 1} → statement M

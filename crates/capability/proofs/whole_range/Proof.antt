@@ -1,6 +1,6 @@
 -- `capability::whole_range` meets its contract. Assumes nothing.
-use borrow.Author.Needs.{needs, sfits-of}
-use mir.Facts.{toZ-ofZ}
+use borrow.Author.Needs.{needs}
+use Rattle.capability.proofs.Fields.{fields}
 use Rattle.capability.proofs.whole_range.Statement.{statement}
 use Rattle.capability.proofs.whole_range.Tie as tie
 
@@ -12,9 +12,8 @@ is-zero-requires-2 c κs = search needs
 
 returns : tie.Need-returns
 returns c =
-    let told = c .before .struct-told2 .given in
-    let l = c .before .before .before .before .args .l in
-    rw (c .is-zero2 .ensures, c .before .before .is-zero .ensures, toZ-ofZ {z = l .sel} (sfits-of (told .1 .1 .0 .1)), toZ-ofZ {z = l .sil} (sfits-of (told .1 .0 .1)))
+    let f = fields (c .before .before .before .before .args .l) (c .before .struct-told2 .given) in
+    rw (c .is-zero2 .ensures, c .before .before .is-zero .ensures, f .sel, f .sil)
 
 pub whole-range-spec : {M : Type 1} → statement M
 whole-range-spec = tie.close (tie.spec is-zero-requires is-zero-requires-2 returns)
