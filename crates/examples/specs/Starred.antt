@@ -3,7 +3,7 @@
 use mathlib.Core.Path.{_≡_, refl}
 use mathlib.Core.Bool.{Bool, cond}
 use mathlib.Core.List.{List, [], _∷_, _++_, map}
-use Prim.Native.Nat.{ℕ}
+use Prim.Native.Nat.{ℕ, _*_}
 use lib.IntN.{ℤ, pos, negℤ}
 use lib.ListN.{drop}
 use Rattle.common.specs.Answer.{orBlank}
@@ -15,6 +15,9 @@ use Rattle.requirement.specs.declared.Row.{Row as Requirement}
 use Rattle.requirement.specs.Requirement.{left, sched, back, start, end, rowOf, tableOf}
 use Rattle.monitor.specs.declared.Row.{Row}
 use Rattle.monitor.specs.Monitor.{rowsOf, monitoring}
+use Rattle.capability.specs.declared.Point.{Point}
+use Rattle.capability.specs.declared.Points.{Points}
+use Rattle.capability.specs.Capability.{risesFrom, pointsRule, capabilityFrom, capabilityOf, capabilityAnswer}
 
 -- lines of numbers
 record Example : Type 0 where
@@ -49,6 +52,21 @@ highTable : List Requirement
 highTable =
     tableOf (REV (containment 40)) (ER (containment 40))
     (0 ∷ 1000 ∷ 8000 ∷ 2000 ∷ 0 ∷ 0 ∷ 0 ∷ 0 ∷ []) .rows
+
+-- ---- capability, in kW
+
+-- a point given in MW
+point : ℕ → ℕ → Point
+point room capability = record { room = 1000 * room; capability = 1000 * capability }
+
+lowPoints : Points
+lowPoints = record { count = 4; points = point 0 0 ∷ point 10 9 ∷ point 50 25 ∷ point 100 40 ∷ point 0 0 ∷ [] }
+
+highPoints : Points
+highPoints = record { count = 3; points = point 0 0 ∷ point 30 20 ∷ point 100 60 ∷ point 0 0 ∷ point 0 0 ∷ [] }
+
+capabilities : Points → List ℕ → List ℤ
+capabilities ps rooms = map (λ (room : ℕ). pos (orBlank 0 (capabilityAnswer ps room))) rooms
 
 -- ---- the list
 
@@ -87,8 +105,18 @@ starred =
           ∷ map (λ (r : Requirement). r .end) (drop 7 highTable)
           ∷ [];
     }
+    -- points (0,0) (10,9) (50,25) (100,40), in MW: room 30 gives 17, 150 gives 55
+    ∷ record {
+      printed = nat (17000 ∷ 55000 ∷ []) ∷ [];
+      given = capabilities lowPoints (30000 ∷ 150000 ∷ []) ∷ [];
+    }
+    -- points (0,0) (30,20) (100,60): room 170 gives 100; 003 prints 80, against its rule
+    ∷ record {
+      printed = nat (100000 ∷ []) ∷ [];
+      given = capabilities highPoints (170000 ∷ []) ∷ [];
+    }
     ∷ []
 
 starred-hold : map (λ (x : Example). x .given) starred ≡ map (λ (x : Example). x .printed) starred
-unfolding starred volumes containment regulation line bit nat highTable left sched back start end rowOf periodsTo tableOf rowsOf monitoring some
+unfolding starred volumes containment regulation line bit nat highTable point lowPoints highPoints capabilities left sched back start end rowOf periodsTo tableOf rowsOf monitoring some risesFrom pointsRule capabilityFrom capabilityOf capabilityAnswer
 starred-hold = refl
