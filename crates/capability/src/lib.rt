@@ -1,6 +1,6 @@
 // Headroom and footroom, response capability and contracted quantity of a unit, in kW.
 ghost use mathlib.Core.Path.{_≡_};
-ghost use mathlib.Core.Bool.{true};
+ghost use mathlib.Core.Bool.{true, cond};
 ghost use mathlib.Core.List.{[], _∷_};
 ghost use Prim.Native.Nat.{_+_, _/_, _^_, _≤_, _<_};
 ghost use lib.IntN.{pos, _-ℤ_};
@@ -8,7 +8,7 @@ ghost use lib.Signed.{leZ};
 ghost use Rattle.common.specs.Fraction.{roundedDown};
 ghost use Rattle.common.specs.Lists.{every};
 ghost use Rattle.signed.specs.Sign.{above, below, eqZ};
-ghost use Rattle.capability.specs.Capability.{inRange, limitsRule, wholeRange, headroom, footroom, directionRule, roomOf};
+ghost use Rattle.capability.specs.Capability.{inRange, limitsRule, wholeRange, directionRule, roomOf};
 ghost use Rattle.capability.specs.Capability.{pointInRange, rises, pointsRule, line, capabilityOf};
 ghost use Rattle.capability.specs.Capability.{answerOf, roomAnswer, capabilityAnswer, quantityAnswer};
 
@@ -111,43 +111,46 @@ fn at_or_below_sil(l: Limits) -> bool
     at_most(l.ol, l.sil)
 }
 
-fn headroom_of(l: Limits) -> u64
-    ensures { λ r. ⌜ r ≡ above (headroom l) ⌝ }
-{
-    if whole_range(l) | at_or_above_sel(l) {
-        return excess(l.mel, l.ol);
-    }
-    if at_or_below_sil(l) {
-        return excess(l.sil, l.ol);
-    }
-    0
-}
-
-fn footroom_of(l: Limits) -> u64
-    ensures { λ r. ⌜ r ≡ above (footroom l) ⌝ }
-{
-    if whole_range(l) | at_or_below_sil(l) {
-        return excess(l.ol, l.mil);
-    }
-    if at_or_above_sel(l) {
-        return excess(l.ol, l.sel);
-    }
-    0
-}
-
 fn direction_holds(direction: u32) -> bool
     ensures { λ r. ⌜ r ≡ directionRule direction ⌝ }
 {
     (direction == 1) | (direction == 2)
 }
 
+// a if the first test holds, else b if the second does, else 0.
+fn first_room(first: bool, a: u64, second: bool, b: u64) -> u64
+    ensures { λ r. ⌜ r ≡ cond first a (cond second b 0) ⌝ }
+{
+    if first {
+        return a;
+    }
+    if second {
+        return b;
+    }
+    0
+}
+
+// Headroom in direction 1, footroom in direction 2.
 fn room_of(direction: u32, l: Limits) -> u64
     ensures { λ r. ⌜ r ≡ roomOf direction l ⌝ }
 {
+    let whole = whole_range(l);
+    let exporting = at_or_above_sel(l);
+    let importing = at_or_below_sil(l);
     if direction == 1 {
-        return headroom_of(l);
+        return first_room(
+            whole | exporting,
+            excess(l.mel, l.ol),
+            importing,
+            excess(l.sil, l.ol),
+        );
     }
-    footroom_of(l)
+    first_room(
+        whole | importing,
+        excess(l.ol, l.mil),
+        exporting,
+        excess(l.ol, l.sel),
+    )
 }
 
 fn point_in_range(p: Point) -> bool
