@@ -3,20 +3,27 @@
 use mathlib.Core.Path.{_≡_, refl}
 use mathlib.Core.Bool.{Bool, cond}
 use mathlib.Core.List.{List, [], _∷_, _++_, map}
-use Prim.Native.Nat.{ℕ}
+use Prim.Native.Nat.{ℕ, _*_}
 use lib.IntN.{ℤ, pos, negℤ}
 use lib.ListN.{drop}
-use Rattle.common.specs.Answer.{orBlank}
-use Rattle.common.specs.Lists.{some}
+use Rattle.common.specs.Answer.{Answer, refused, given, orBlank}
+use Rattle.common.specs.Lists.{sum, every, some}
 use Rattle.common.specs.Periods.{periodsTo}
 use Rattle.terms.specs.declared.Quantities.{Quantities}
-use Rattle.terms.specs.Terms.{REV, ER}
+use Rattle.terms.specs.Terms.{REV, ER, limitsBroken}
 use Rattle.requirement.specs.declared.Row.{Row as Requirement}
 use Rattle.requirement.specs.Requirement.{left, sched, back, start, end, rowOf, tableOf}
 use Rattle.monitor.specs.declared.Row.{Row}
 use Rattle.monitor.specs.Monitor.{rowsOf, monitoring}
-use Rattle.energy.specs.Curve.{regulationCurve, shareFrom, response}
+use Rattle.energy.specs.Curve.{regulationCurve, risesFrom as curveRisesFrom, curveRule, curvesRule, shareFrom, response}
 use Rattle.energy.specs.Period.{lowDeviation}
+use Rattle.capability.specs.declared.Point.{Point}
+use Rattle.capability.specs.declared.Points.{Points}
+use Rattle.capability.specs.Capability.{risesFrom, pointsRule, capabilityFrom, capabilityOf, capabilityAnswer}
+use Rattle.ledger_record.specs.declared.Record.{Record}
+use Rattle.ledger_record.specs.Opening.{openingCauses, blankRecord, opening}
+use Rattle.ledger_record.specs.Rule.{startAt, schedAt, backAt, entryRule, entriesRule, totalsRule, stateRule, recordRule}
+use Rattle.ledger.specs.Calls.{unusable, need, accepts, checking}
 
 -- lines of numbers
 record Example : Type 0 where
@@ -51,6 +58,36 @@ highTable : List Requirement
 highTable =
     tableOf (REV (containment 40)) (ER (containment 40))
     (0 ∷ 1000 ∷ 8000 ∷ 2000 ∷ 0 ∷ 0 ∷ 0 ∷ 0 ∷ []) .rows
+
+-- ---- capability, in kW
+
+-- a point given in MW
+point : ℕ → ℕ → Point
+point room capability = record { room = 1000 * room; capability = 1000 * capability }
+
+lowPoints : Points
+lowPoints = record { count = 4; points = point 0 0 ∷ point 10 9 ∷ point 50 25 ∷ point 100 40 ∷ point 0 0 ∷ [] }
+
+highPoints : Points
+highPoints = record { count = 3; points = point 0 0 ∷ point 30 20 ∷ point 100 60 ∷ point 0 0 ∷ point 0 0 ∷ [] }
+
+capabilities : Points → List ℕ → List ℤ
+capabilities ps rooms = map (λ (room : ℕ). pos (orBlank 0 (capabilityAnswer ps room))) rooms
+
+-- ---- a ledger
+
+-- the record that opening returns: any power limits and curves that it lets through
+fullBattery : Record
+fullBattery =
+    orBlank blankRecord
+    (opening (record { low = regulation 100; high = regulation 0; «export_limit» = pos 100000; «import_limit» = pos 40000 })
+    (record { dc = regulationCurve; dm = regulationCurve; dr = regulationCurve })
+    100000 100000)
+
+-- a refusal's number, and 0 for none
+number : Answer Unit → ℤ
+number (refused n) = pos n
+number (given a) = pos 0
 
 -- ---- the list
 
@@ -94,8 +131,23 @@ starred =
           ∷ map (λ (r : Requirement). r .end) (drop 7 highTable)
           ∷ [];
     }
+    -- points (0,0) (10,9) (50,25) (100,40), in MW: room 30 gives 17, 150 gives 55
+    ∷ record {
+      printed = nat (17000 ∷ 55000 ∷ []) ∷ [];
+      given = capabilities lowPoints (30000 ∷ 150000 ∷ []) ∷ [];
+    }
+    -- points (0,0) (30,20) (100,60): room 170 gives 100; 003 prints 80, against its rule
+    ∷ record {
+      printed = nat (100000 ∷ []) ∷ [];
+      given = capabilities highPoints (170000 ∷ []) ∷ [];
+    }
+    -- 100 MW DR low only, size and state 100,000: p = 0 accepted, 1 and −1 refused
+    ∷ record {
+      printed = nat (0 ∷ 8 ∷ 8 ∷ []) ∷ [];
+      given = map (λ (p : ℤ). number (checking fullBattery p)) (pos 0 ∷ pos 1 ∷ negℤ (pos 1) ∷ []) ∷ [];
+    }
     ∷ []
 
 starred-hold : map (λ (x : Example). x .given) starred ≡ map (λ (x : Example). x .printed) starred
-unfolding starred volumes containment regulation line bit nat highTable left sched back start end rowOf periodsTo tableOf rowsOf monitoring some shareFrom response
+unfolding starred volumes containment regulation line bit nat highTable point lowPoints highPoints capabilities fullBattery number left sched back start end rowOf periodsTo tableOf rowsOf monitoring some every sum shareFrom response curveRisesFrom curveRule curvesRule limitsBroken openingCauses opening startAt schedAt backAt entryRule entriesRule totalsRule stateRule recordRule unusable need accepts checking risesFrom pointsRule capabilityFrom capabilityOf capabilityAnswer
 starred-hold = refl

@@ -29,8 +29,10 @@ use Rattle.ledger.proofs.close_period.Tie as tie
 -- the arrays of a record have eight entries
 eight : (c : tie.Start) → (length (c .args .given .low .bounds) ≡ 8) × (length (c .args .given .high .bounds) ≡ 8)
 eight c =
-    let low = c .good .0 .1 .1 .1 .1 .1 .1 .1 .1 .0 .1 .0 in
-    let high = c .good .0 .1 .1 .1 .1 .1 .1 .1 .1 .1 .0 .1 .0 in
+    let low = c .good .0 .1 .1 .1 .1 .1 .1 .1 .1 .0 in
+    let high = c .good .0 .1 .1 .1 .1 .1 .1 .1 .1 .1 .0 in
+    let low-bounds = low .1 .0 in
+    let high-bounds = high .1 .0 in
     (search needs, search needs)
 
 -- ---- what is known once neither 10 nor 8 holds

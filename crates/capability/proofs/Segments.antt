@@ -1,0 +1,97 @@
+-- The segment of a room, and the loop of `capability_of` that looks for it. Assumes nothing.
+use mathlib.Core.Path.{_≡_, _∙_}
+use mathlib.Core.Bool.{true, _&&_, and-eq-true-iff}
+use mathlib.Core.List.{List, [], _∷_}
+use Prim.Native.Nat.{ℕ, _+_, _≤_, _<_}
+use native.Mathlib.Omega.{arith}
+use borrow.Author.Tests.{le-leb, lt-leb, leb-true, ltb-true, eqb-true}
+use lib.Dec.{leb, ltb, eqb}
+use lib.ListN.{length, take}
+use Rattle.capability.specs.Capability.{pointsOf, pointInRange, rises, risesFrom, listRule, pointsRule, line, capabilityFrom, capabilityAt}
+use Rattle.capability.specs.declared.Point.{Point}
+use Rattle.capability.specs.declared.Points.{Points}
+use Rattle.capability.proofs.Rising.{at, rest, next, none-left, count-range}
+
+-- ---- what the rule says of two points that follow each other, before the points ps
+
+pub record Segment (p q : Point) (ps : List Point) : Type 0 where
+  pub farther : p .room < q .room
+  pub no-less : p .capability ≤ q .capability
+  pub room-most : q .room ≤ 4000000
+  pub capability-most : q .capability ≤ 4000000
+  pub onward : risesFrom q ps ≡ true
+
+first-test : (p : Point) (ps : List Point) → risesFrom p ps ≡ true → pointInRange p ≡ true
+unfolding risesFrom
+first-test p [] e = e
+first-test p (q ∷ ps) e = and-eq-true-iff (pointInRange p) (rises p q) .0 (and-eq-true-iff (pointInRange p && rises p q) (risesFrom q ps) .0 e .0) .0
+
+segment : (p q : Point) (ps : List Point) → risesFrom p (q ∷ ps) ≡ true → Segment p q ps
+unfolding risesFrom
+segment p q ps e =
+    let tests = and-eq-true-iff (pointInRange p && rises p q) (risesFrom q ps) .0 e in
+    let rise = and-eq-true-iff (pointInRange p) (rises p q) .0 (tests .0) in
+    let higher = and-eq-true-iff (ltb (p .room) (q .room)) (leb (p .capability) (q .capability)) .0 (rise .1) in
+    let range = and-eq-true-iff (leb (q .room) 4000000) (leb (q .capability) 4000000) .0 (first-test q ps (tests .1)) in
+    record {
+      farther = ltb-true _ _ (higher .0);
+      no-less = leb-true _ _ (higher .1);
+      room-most = leb-true _ _ (range .0);
+      capability-most = leb-true _ _ (range .1);
+      onward = tests .1;
+    }
+
+-- ---- the loop: the room is past the point p, and the points from q on decide
+
+module _ (count : ℕ) (points : List Point) (room : ℕ) where
+  pub record Reached (p q : Point) (i : ℕ) : Type 0 where
+    pub within : i ≤ count
+    pub most : count ≤ 5
+    pub long : length points ≡ 5
+    pub segments : Segment p q (rest count points i)
+    pub past : p .room ≤ room
+    pub same : capabilityAt (take count points) room ≡ capabilityFrom p q (rest count points i) room
+
+  module _ {p q : Point} {i : ℕ} (r : Reached p q i) where
+    pub last-two : count ≤ i → capabilityAt (take count points) room ≡ line p q room
+    unfolding capabilityFrom
+    last-two h = r .same ∙ (rw (none-left count points i h))
+
+    module _ (h : i < count) where
+      there : rest count points i ≡ at points i ∷ rest count points (i + 1)
+      there = next count points i h (omega arith)
+
+      pub here : room ≤ q .room → capabilityAt (take count points) room ≡ line p q room
+      unfolding capabilityFrom
+      here b = r .same ∙ (rw (there, le-leb room (q .room) b))
+
+      pub farther-on : q .room < room → Reached q (at points i) (i + 1)
+      unfolding capabilityFrom
+      farther-on b =
+          record {
+            within = omega arith;
+            most = r .most;
+            long = r .long;
+            segments = segment q (at points i) (rest count points (i + 1)) (rw there at (r .segments .onward));
+            past = omega arith;
+            same = r .same ∙ (rw (there, lt-leb room (q .room) b));
+          }
+
+pub begin : (ps : Points) (room : ℕ) → pointsRule ps ≡ true → length (ps .points) ≡ 5 → Reached (ps .count) (ps .points) room (at (ps .points) 0) (at (ps .points) 1) 2
+unfolding pointsRule
+begin ps room rule long =
+    let n = ps .count in
+    let points = ps .points in
+    let parts = and-eq-true-iff (leb 2 n && leb n 5) (listRule (pointsOf ps)) .0 rule in
+    let b = count-range n (parts .0) in
+    let first : rest n points 0 ≡ at points 0 ∷ rest n points 1 = next n points 0 (omega arith) (omega arith) in
+    let second : rest n points 1 ≡ at points 1 ∷ rest n points 2 = next n points 1 (omega arith) (omega arith) in
+    let tests = and-eq-true-iff (eqb (at points 0 .room) 0) (risesFrom (at points 0) (at points 1 ∷ rest n points 2)) .0 (rw (first, second) at (parts .1)) in
+    record {
+      within = b .0;
+      most = b .1;
+      long = long;
+      segments = segment (at points 0) (at points 1) (rest n points 2) (tests .1);
+      past = omega (arith, eqb-true (at points 0 .room) 0 (tests .0));
+      same = rw (first, second);
+    }

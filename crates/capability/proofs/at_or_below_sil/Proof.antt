@@ -1,0 +1,16 @@
+-- `capability::at_or_below_sil` meets its contract. Assumes nothing.
+use borrow.Author.Needs.{needs}
+use Rattle.capability.proofs.Fields.{fields}
+use Rattle.capability.proofs.at_or_below_sil.Statement.{statement}
+use Rattle.capability.proofs.at_or_below_sil.Tie as tie
+
+at-most-requires : tie.Need-at-most-requires
+at-most-requires c κs = search needs
+
+returns : tie.Need-returns
+returns c =
+    let f = fields (c .before .before .before .args .l) (c .before .struct-told2 .given) in
+    rw (c .at-most .ensures, f .ol, f .sil)
+
+pub at-or-below-sil-spec : {M : Type 1} → statement M
+at-or-below-sil-spec = tie.close (tie.spec at-most-requires returns)

@@ -1,0 +1,267 @@
+// Headroom and footroom, response capability and contracted quantity of a unit, in kW.
+ghost use mathlib.Core.Path.{_≡_};
+ghost use mathlib.Core.Bool.{true, cond};
+ghost use mathlib.Core.List.{[], _∷_};
+ghost use Prim.Native.Nat.{_+_, _/_, _^_, _≤_, _<_};
+ghost use lib.IntN.{pos, _-ℤ_};
+ghost use lib.Signed.{leZ};
+ghost use Rattle.common.specs.Fraction.{roundedDown};
+ghost use Rattle.common.specs.Lists.{every};
+ghost use Rattle.signed.specs.Sign.{above, below, eqZ};
+ghost use Rattle.capability.specs.Capability.{inRange, limitsRule, wholeRange, directionRule, roomOf};
+ghost use Rattle.capability.specs.Capability.{pointInRange, rises, pointsRule, line, capabilityOf};
+ghost use Rattle.capability.specs.Capability.{answerOf, roomAnswer, capabilityAnswer, quantityAnswer};
+
+// Maximum and stable import limits, stable and maximum export limits, operating level.
+pub struct Limits {
+    pub mil: i64,
+    pub sil: i64,
+    pub sel: i64,
+    pub mel: i64,
+    pub ol: i64,
+}
+
+pub struct Point {
+    pub room: u32,
+    pub capability: u32,
+}
+
+// Points past the count are ignored.
+pub struct Points {
+    pub count: u32,
+    pub points: [Point; 5],
+}
+
+pub enum CapabilityAnswer {
+    // A room, a capability or a contracted quantity.
+    Power(u64),
+    // Refusal 12: data break their rule.
+    Data,
+}
+
+fn in_range(z: i64) -> bool
+    ensures { λ r. ⌜ r ≡ inRange z ⌝ }
+{
+    (signed::below_zero(z) <= 2_000_000) & (signed::above_zero(z) <= 2_000_000)
+}
+
+fn is_zero(z: i64) -> bool
+    ensures { λ r. ⌜ r ≡ eqZ z (pos 0) ⌝ }
+{
+    (signed::below_zero(z) == 0) & (signed::above_zero(z) == 0)
+}
+
+// a raised by the parts of a and b below 0. With b raised alike, order and difference are kept and no sign is left.
+fn raised(a: i64, b: i64) -> u64
+    ensures { λ r. ⌜ r ≡ above a + below b ⌝ }
+{
+    signed::above_zero(a) + signed::below_zero(b)
+}
+
+// a ≤ b
+fn at_most(a: i64, b: i64) -> bool
+    ensures { λ r. ⌜ r ≡ leZ a b ⌝ }
+{
+    raised(a, b) <= raised(b, a)
+}
+
+// By how much a is above b; 0 if it is not.
+fn excess(a: i64, b: i64) -> u64
+    ensures { λ r. ⌜ r ≡ above (a -ℤ b) ⌝ }
+{
+    let from = raised(b, a);
+    let to = raised(a, b);
+    to - common::smaller(from, to)
+}
+
+fn each_in_range(l: Limits) -> bool
+    ensures { λ r. ⌜ r ≡ every inRange (l .mil ∷ l .sil ∷ l .sel ∷ l .mel ∷ l .ol ∷ []) ⌝ }
+{
+    in_range(l.mil) & (in_range(l.sil) & (in_range(l.sel) & (in_range(l.mel) & in_range(l.ol))))
+}
+
+fn limits_hold(l: Limits) -> bool
+    ensures { λ r. ⌜ r ≡ limitsRule l ⌝ }
+{
+    each_in_range(l)
+        & at_most(l.mil, l.sil)
+        & at_most(l.sil, 0)
+        & at_most(0, l.sel)
+        & at_most(l.sel, l.mel)
+        & (at_most(l.mil, l.ol) & at_most(l.ol, l.mel))
+}
+
+fn whole_range(l: Limits) -> bool
+    ensures { λ r. ⌜ r ≡ wholeRange l ⌝ }
+{
+    is_zero(l.sel) & is_zero(l.sil)
+}
+
+// OL ≥ SEL
+fn at_or_above_sel(l: Limits) -> bool
+    ensures { λ r. ⌜ r ≡ leZ (l .sel) (l .ol) ⌝ }
+{
+    at_most(l.sel, l.ol)
+}
+
+// OL ≤ SIL
+fn at_or_below_sil(l: Limits) -> bool
+    ensures { λ r. ⌜ r ≡ leZ (l .ol) (l .sil) ⌝ }
+{
+    at_most(l.ol, l.sil)
+}
+
+fn direction_holds(direction: u32) -> bool
+    ensures { λ r. ⌜ r ≡ directionRule direction ⌝ }
+{
+    (direction == 1) | (direction == 2)
+}
+
+// a if the first test holds, else b if the second does, else 0.
+fn first_room(first: bool, a: u64, second: bool, b: u64) -> u64
+    ensures { λ r. ⌜ r ≡ cond first a (cond second b 0) ⌝ }
+{
+    if first {
+        return a;
+    }
+    if second {
+        return b;
+    }
+    0
+}
+
+// Headroom in direction 1, footroom in direction 2.
+fn room_of(direction: u32, l: Limits) -> u64
+    ensures { λ r. ⌜ r ≡ roomOf direction l ⌝ }
+{
+    let whole = whole_range(l);
+    let exporting = at_or_above_sel(l);
+    let importing = at_or_below_sil(l);
+    if direction == 1 {
+        return first_room(
+            whole | exporting,
+            excess(l.mel, l.ol),
+            importing,
+            excess(l.sil, l.ol),
+        );
+    }
+    first_room(
+        whole | importing,
+        excess(l.ol, l.mil),
+        exporting,
+        excess(l.ol, l.sel),
+    )
+}
+
+fn point_in_range(p: Point) -> bool
+    ensures { λ r. ⌜ r ≡ pointInRange p ⌝ }
+{
+    (p.room <= 4_000_000) & (p.capability <= 4_000_000)
+}
+
+fn rises_to(p: Point, q: Point) -> bool
+    ensures { λ r. ⌜ r ≡ rises p q ⌝ }
+{
+    (p.room < q.room) & (p.capability <= q.capability)
+}
+
+fn points_hold(ps: Points) -> bool
+    ensures { λ r. ⌜ r ≡ pointsRule ps ⌝ }
+{
+    let count = ps.count as usize;
+    if !((2 <= count) & (count <= 5)) {
+        return false;
+    }
+    let points = ps.points;
+    let mut last = points[0];
+    if last.room != 0 {
+        return false;
+    }
+    let mut i: usize = 1;
+    while i < count {
+        let next = points[i];
+        if !(point_in_range(last) & rises_to(last, next)) {
+            return false;
+        }
+        last = next;
+        i += 1;
+    }
+    point_in_range(last)
+}
+
+fn rounded_down(numerator: u64, denominator: u64) -> u64
+    requires { ⌜ (numerator < 2 ^ 63) × (0 < denominator) × (denominator < 2 ^ 63) ⌝ }
+    ensures { λ r. ⌜ r ≡ numerator / denominator ⌝ }
+{
+    numerator / denominator
+}
+
+// The line through two points, rounded down.
+fn on_line(p: Point, q: Point, room: u32) -> u64
+    requires { ⌜ (p .room < q .room) × (q .room ≤ 4000000) × (p .capability ≤ q .capability) × (q .capability ≤ 4000000) × (p .room ≤ room) ⌝ }
+    ensures { λ r. ⌜ r ≡ roundedDown (line p q room) ⌝ }
+{
+    let width = (q.room - p.room) as u64;
+    let rise = (q.capability - p.capability) as u64;
+    let past = (room - p.room) as u64;
+    rounded_down(p.capability as u64 * width + rise * past, width)
+}
+
+// The line of the first segment that ends at the room or past it, else of the last two points.
+fn capability_of(ps: Points, room: u32) -> u64
+    requires { ⌜ pointsRule ps ≡ true ⌝ }
+    ensures { λ r. ⌜ r ≡ capabilityOf ps room ⌝ }
+{
+    let count = ps.count as usize;
+    let points = ps.points;
+    let mut p = points[0];
+    let mut q = points[1];
+    let mut i: usize = 2;
+    while i < count {
+        let next = points[i];
+        if room <= q.room {
+            return on_line(p, q, room);
+        }
+        p = q;
+        q = next;
+        i += 1;
+    }
+    on_line(p, q, room)
+}
+
+// The room of a direction: 1 low, headroom; 2 high, footroom.
+pub fn room(direction: u32, limits: Limits) -> CapabilityAnswer
+    ensures { λ r. ⌜ answerOf r ≡ roomAnswer direction limits ⌝ }
+{
+    let good = direction_holds(direction) & limits_hold(limits);
+    if !good {
+        return CapabilityAnswer::Data;
+    }
+    CapabilityAnswer::Power(room_of(direction, limits))
+}
+
+// The response capability at a room of 0 to 4,000,000.
+pub fn capability(points: Points, room: u32) -> CapabilityAnswer
+    ensures { λ r. ⌜ answerOf r ≡ capabilityAnswer points room ⌝ }
+{
+    let good = points_hold(points) & (room <= 4_000_000);
+    if !good {
+        return CapabilityAnswer::Data;
+    }
+    CapabilityAnswer::Power(capability_of(points, room))
+}
+
+// The smaller of capability and submitted limit.
+pub fn quantity(direction: u32, limits: Limits, points: Points, limit: u32) -> CapabilityAnswer
+    ensures { λ r. ⌜ answerOf r ≡ quantityAnswer direction limits points limit ⌝ }
+{
+    let good = direction_holds(direction)
+        & limits_hold(limits)
+        & points_hold(points)
+        & (limit <= 4_000_000);
+    if !good {
+        return CapabilityAnswer::Data;
+    }
+    let room = room_of(direction, limits) as u32;
+    CapabilityAnswer::Power(common::smaller(capability_of(points, room), limit as u64))
+}
