@@ -1,13 +1,13 @@
 -- Sums and tests over lists. Assumes nothing.
-use mathlib.Core.Path.{_≡_, sym, _∙_}
-use mathlib.Core.Bool.{Bool, true, false, _||_}
+use mathlib.Core.Path.{_≡_, refl, sym, _∙_}
+use mathlib.Core.Bool.{Bool, true, false, _&&_, _||_}
 use mathlib.Core.List.{List, [], _∷_, _++_}
-use Prim.Native.Nat.{ℕ, suc, _+_, _≤_, _<_}
+use Prim.Native.Nat.{ℕ, zero, suc, _+_, _≤_, _<_}
 use native.Mathlib.Numerals.{add-one}
 use native.Mathlib.Omega.{arith}
 use lib.ListN.{length, getD, drop, drop-of-length-le}
 use lib.Seq.{drop-cons}
-use Rattle.common.specs.Lists.{sum, some}
+use Rattle.common.specs.Lists.{sum, every, some}
 
 pub sum-append : (ms ns : List ℕ) → sum (ms ++ ns) ≡ sum ms + sum ns
 unfolding sum
@@ -29,3 +29,25 @@ module _ {A : Type 0} (holds : A → Bool) (xs : List A) (i : ℕ) (d : A) where
 pub some-none : {A : Type 0} (holds : A → Bool) (xs : List A) (i : ℕ) → length xs ≤ i → some holds (drop i xs) ≡ some holds xs → false ≡ some holds xs
 unfolding some
 some-none holds xs i h same = rw (drop-of-length-le xs h) at same
+
+-- ---- every
+module _ {A : Type 0} (holds : A → Bool) where
+  pub every-append : (xs ys : List A) → every holds (xs ++ ys) ≡ every holds xs && every holds ys
+  unfolding every
+  every-append [] ys = refl
+  every-append (x ∷ xs) ys = by (holds x) (every-append xs ys)
+    where
+      by : (t : Bool) → every holds (xs ++ ys) ≡ every holds xs && every holds ys → t && every holds (xs ++ ys) ≡ (t && every holds xs) && every holds ys
+      by true e = e
+      by false e = refl
+
+  -- one entry breaks it
+  pub every-not : (xs : List A) (i : ℕ) (d : A) → i < length xs → holds (getD xs i d) ≡ false → every holds xs ≡ false
+  unfolding every
+  every-not [] i d h broken = absurd (omega arith)
+  every-not (x ∷ xs) zero d h broken = rw broken
+  every-not (x ∷ xs) (suc i) d h broken = by (holds x) (every-not xs i d (omega arith) broken)
+    where
+      by : (t : Bool) → every holds xs ≡ false → t && every holds xs ≡ false
+      by true e = e
+      by false e = refl

@@ -90,6 +90,9 @@ reportedOf Line.Malformed = 0
 unfoldable pub wellFormed : List ℕ → Bool
 wellFormed text = eqb (length text) 189 && hasTerms (header text) && every hasEnergies (periodLines text)
 
+abbrev pub noInput : Input
+noInput = record { good = false; quantities = noQuantities; bounds = replicate 8 0; reported = replicate 8 0 }
+
 -- what a text says; zeros where it is malformed
 unfoldable pub inputOf : List ℕ → Input
 inputOf text =
@@ -100,4 +103,4 @@ inputOf text =
       bounds = map boundOf (periodLines text);
       reported = map reportedOf (periodLines text);
     })
-    (record { good = false; quantities = noQuantities; bounds = replicate 8 0; reported = replicate 8 0 })
+    noInput

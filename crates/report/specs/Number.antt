@@ -1,5 +1,5 @@
 -- Paper 01, "Report": a number as text, in ASCII: 32 is a blank, 45 a -, 48 to 57 are the digits. Assumes nothing.
-use mathlib.Core.Bool.{Bool, cond, _&&_}
+use mathlib.Core.Bool.{Bool, true, false, cond, _&&_}
 use mathlib.Core.List.{List, [], _∷_, _++_}
 use Prim.Native.Nat.{ℕ, zero, suc, _+_, _*_, _-_, _/_, _%_}
 use lib.Dec.{eqb, leb, ltb}
@@ -19,15 +19,25 @@ digits (suc k) n = cond (ltb n 10) [] (digits k (n / 10)) ++ ((48 + n % 10) ∷ 
 unfoldable pub right : ℕ → List ℕ → List ℕ
 right k text = drop (length text) (replicate k 32 ++ text)
 
+abbrev pub sign : Bool → List ℕ
+sign true = 45 ∷ []
+sign false = []
+
 -- a number in k columns; below 0 it has a - before its first digit
 abbrev pub text : ℕ → ℤ → List ℕ
 text k (pos n) = right k (digits k n)
-text k (negsuc n) = right k (45 ∷ digits k (suc n))
+text k (negsuc n) = right k (sign true ++ digits k (suc n))
 
 -- ---- what number a text is
 
 abbrev pub digit : ℕ → Bool
 digit b = leb 48 b && leb b 57
+
+-- the number so far
+abbrev pub value : Field → ℕ
+value Blank = 0
+value (Number n) = n
+value Malformed = 0
 
 -- one column more: blanks, then digits, of which the first is 0 only where it stands alone
 unfoldable pub next : Field → ℕ → Field

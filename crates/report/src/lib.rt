@@ -7,7 +7,7 @@ ghost use lib.Dec.{ltb};
 ghost use lib.ListN.{length, take, drop};
 ghost use Rattle.common.specs.Answer.{orBlank};
 ghost use Rattle.report.specs.Number as Number;
-ghost use Rattle.report.specs.Input as Input;
+ghost use Rattle.report.specs.Input.{headerOf, energiesOf, energiesAt, noInput, inputOf};
 ghost use Rattle.report.specs.Output as Output;
 ghost use Rattle.report.specs.Report as Report;
 use monitor::Row;
@@ -90,7 +90,7 @@ fn read_number(cell: &[u8]) -> Field
 
 fn read_header(line: &[u8]) -> Header
     requires { ⌜ length (now line) ≡ 37 ⌝ }
-    ensures { λ r. ⌜ r ≡ Input.headerOf (now (line .entry)) ⌝ }
+    ensures { λ r. ⌜ r ≡ headerOf (now (line .entry)) ⌝ }
 {
     let Field::Number(direction) = read_number(&line[0..9]) else {
         return Header::Malformed;
@@ -112,7 +112,7 @@ fn read_header(line: &[u8]) -> Header
 
 fn read_line(line: &[u8]) -> Line
     requires { ⌜ length (now line) ≡ 19 ⌝ }
-    ensures { λ r. ⌜ r ≡ Input.energiesOf (now (line .entry)) ⌝ }
+    ensures { λ r. ⌜ r ≡ energiesOf (now (line .entry)) ⌝ }
 {
     let Field::Number(bound) = read_number(&line[0..9]) else {
         return Line::Malformed;
@@ -128,7 +128,7 @@ fn read_line(line: &[u8]) -> Line
 
 // Line n, from 2 on; malformed where the text has none.
 fn line_at(text: &[u8], n: usize) -> Line
-    ensures { λ r. ⌜ r ≡ Input.energiesAt (now (text .entry)) n ⌝ }
+    ensures { λ r. ⌜ r ≡ energiesAt (now (text .entry)) n ⌝ }
 {
     if n < 2 {
         return Line::Malformed;
@@ -156,20 +156,20 @@ fn reader_at<'a>(text: &'a [u8], line: usize) -> Reader<'a>
 }
 
 fn next_line<'a>(r: Reader<'a>) -> Line
-    ensures { λ l. ⌜ l ≡ Input.energiesAt (now (r .entry .text)) (r .entry .line) ⌝ }
+    ensures { λ l. ⌜ l ≡ energiesAt (now (r .entry .text)) (r .entry .line) ⌝ }
 {
     line_at(r.text, r.line)
 }
 
 // From a text to a reader and back, for callers that hold a plain slice.
 fn energies_at(text: &[u8], line: usize) -> Line
-    ensures { λ l. ⌜ l ≡ Input.energiesAt (now (text .entry)) line ⌝ }
+    ensures { λ l. ⌜ l ≡ energiesAt (now (text .entry)) line ⌝ }
 {
     next_line(reader_at(text, line))
 }
 
 fn malformed() -> Input
-    ensures { λ r. ⌜ r ≡ Input.malformed ⌝ }
+    ensures { λ r. ⌜ r ≡ noInput ⌝ }
 {
     Input {
         good: false,
@@ -184,7 +184,7 @@ fn malformed() -> Input
 }
 
 fn parse(text: &[u8]) -> Input
-    ensures { λ r. ⌜ r ≡ Input.inputOf (now (text .entry)) ⌝ }
+    ensures { λ r. ⌜ r ≡ inputOf (now (text .entry)) ⌝ }
 {
     if text.len() != 189 {
         return malformed();
@@ -276,7 +276,8 @@ fn put_signed(line: &mut [u8], at: usize, z: i64)
     requires { ⌜ at + 9 ≤ length (now line) ⌝ }
     ensures { λ _. ⌜ now (line .exit) ≡ take at (now (line .entry)) ++ (Number.text 9 z ++ drop (at + 9) (now (line .entry))) ⌝ }
 {
-    put_at(line, at, 9, z < 0, signed::magnitude(z));
+    let below = signed::below_zero(z);
+    put_at(line, at, 9, 0 < below, signed::above_zero(z) + below);
 }
 
 fn bit(b: bool) -> u64
