@@ -8,6 +8,7 @@ use native.Mathlib.Omega.{arith}
 use lib.ListN.{length, getD, drop, drop-of-length-le}
 use lib.Seq.{drop-cons}
 use Rattle.common.specs.Lists.{sum, every, some}
+use Rattle.common.proofs.Tests.{neither}
 
 pub sum-append : (ms ns : List ℕ) → sum (ms ++ ns) ≡ sum ms + sum ns
 unfolding sum
@@ -51,3 +52,12 @@ module _ {A : Type 0} (holds : A → Bool) where
       by : (t : Bool) → every holds xs ≡ false → t && every holds xs ≡ false
       by true e = e
       by false e = refl
+
+-- ---- some
+module _ {A : Type 0} (holds : A → Bool) where
+  -- no entry holds, and neither does what stands past the last
+  pub some-not : (xs : List A) (i : ℕ) (d : A) → holds d ≡ false → some holds xs ≡ false → holds (getD xs i d) ≡ false
+  unfolding some
+  some-not [] i d past none = past
+  some-not (x ∷ xs) zero d past none = neither (holds x) (some holds xs) none .0
+  some-not (x ∷ xs) (suc i) d past none = some-not xs i d past (neither (holds x) (some holds xs) none .1)
