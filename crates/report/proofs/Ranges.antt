@@ -1,10 +1,10 @@
 -- The numbers of every row that the report prints fit their columns: nothing of them is cut off.
 -- The quantity is at most 1,000 MW, so REV is at most 1,000,000 and a bound at most 500,000. Eight bounds make at most 4,000,000:
 -- starts lie between −4,000,000 and 1,000,000, and what is scheduled, comes back or is left is at most 4,000,000. Assumes nothing.
-use mathlib.Core.Path.{_≡_, refl, sym, ap, _∙_}
-use mathlib.Core.Bool.{Bool, true, false, _||_}
-use mathlib.Core.List.{List, [], _∷_}
-use Prim.Native.Nat.{ℕ, zero, suc, _+_, _*_, _-_, _≤_, _<_, _^_}
+use mathlib.Core.Path.{_≡_, refl}
+use mathlib.Core.Bool.{Bool, true, false}
+use mathlib.Core.List.{List}
+use Prim.Native.Nat.{ℕ, zero, suc, _*_, _-_, _≤_, _<_}
 use native.Mathlib.Omega.{arith}
 use borrow.Author.Tests.{ltb-false, le-ltb}
 use lib.Dec.{ltb, eqb}

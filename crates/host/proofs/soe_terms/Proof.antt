@@ -1,7 +1,6 @@
 -- `host::soe_terms` meets its contract. Assumes nothing.
-use mathlib.Core.Path.{_≡_, sym, ap, _∙_}
+use mathlib.Core.Path.{_≡_, ap}
 use borrow.Author.Needs.{needs, sfits-of}
-use lib.IntN.{ℤ}
 use mir.Facts.{toZ-ofZ}
 use Rattle.terms.specs.Terms.{answerOf, termsCheck}
 use Rattle.host.specs.Convention.{coded, done}
