@@ -3,10 +3,11 @@ use Prim.Native.Nat.{ℕ}
 use lib.IntN.{ℤ, pos, negℤ}
 use Rattle.common.specs.Answer.{Answer, refused, given}
 
--- the number that stands for what a call gives; 0 where that is no number
+-- `value` is the number that stands for what a call gives
 abbrev pub coded : {A : Type 0} → (A → ℕ) → Answer A → ℤ
 coded value (refused n) = negℤ (pos n)
 coded value (given a) = pos (value a)
 
+-- for a call that gives no number
 abbrev pub done : {A : Type 0} → A → ℕ
 done a = 0

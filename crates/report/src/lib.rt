@@ -13,17 +13,21 @@ ghost use Rattle.report.specs.Report as Report;
 use monitor::Row;
 use terms::Quantities;
 
-// Why nothing is written: the text (refusal 13), the quantity (1), a bound (7), a reported energy (11), the output (14).
 pub enum ReportAnswer {
     Written,
+    // The text is malformed.
     Malformed,
+    // The direction is above 1,000 MW, or its quantity is 0.
     Quantity,
+    // A bound is above 500 times the quantity.
     Bound,
+    // A reported energy is above 10,000,000.
     Reported,
+    // The output has fewer than 488 bytes.
     Short,
 }
 
-// What the columns so far of a number have: blanks only, or a number.
+// What a number's columns so far have: blanks only, or a number.
 enum Field {
     Blank,
     Number(u32),
@@ -42,6 +46,7 @@ enum Line {
     Malformed,
 }
 
+// What a text says; good: it is well-formed.
 struct Input {
     good: bool,
     quantities: Quantities,
@@ -49,6 +54,7 @@ struct Input {
     reported: [u32; 8],
 }
 
+// One column more. Eight columns have a number below 100,000,000, so nine fit a u32.
 fn next(f: Field, b: u8) -> Field
     requires { ⌜ Number.value f < 100000000 ⌝ }
     ensures { λ r. ⌜ r ≡ Number.next f b ⌝ }
@@ -88,6 +94,7 @@ fn read_number(cell: &[u8]) -> Field
     f
 }
 
+// Line 1, with its line feed.
 fn read_header(line: &[u8]) -> Header
     requires { ⌜ length (now line) ≡ 37 ⌝ }
     ensures { λ r. ⌜ r ≡ headerOf (now (line .entry)) ⌝ }
@@ -110,6 +117,7 @@ fn read_header(line: &[u8]) -> Header
     Header::Malformed
 }
 
+// One of lines 2 to 9, with its line feed.
 fn read_line(line: &[u8]) -> Line
     requires { ⌜ length (now line) ≡ 19 ⌝ }
     ensures { λ r. ⌜ r ≡ energiesOf (now (line .entry)) ⌝ }
@@ -143,7 +151,7 @@ fn line_at(text: &[u8], n: usize) -> Line
     read_line(&text[at..at + 19])
 }
 
-// A reader keeps the text and the next line together.
+// A reader keeps the text and the next line's number together.
 struct Reader<'a> {
     text: &'a [u8],
     line: usize,
@@ -161,7 +169,7 @@ fn next_line<'a>(r: Reader<'a>) -> Line
     line_at(r.text, r.line)
 }
 
-// From a text to a reader and back, for callers that hold a plain slice.
+// The same for callers that hold a plain slice.
 fn energies_at(text: &[u8], line: usize) -> Line
     ensures { λ l. ⌜ l ≡ energiesAt (now (text .entry)) line ⌝ }
 {
@@ -272,6 +280,7 @@ fn put_at(line: &mut [u8], at: usize, width: usize, minus: bool, n: u64)
     put(&mut line[at..at + width], minus, n);
 }
 
+// A number that may be negative in the nine columns from `at` on; one of its parts above and below 0 is 0.
 fn put_signed(line: &mut [u8], at: usize, z: i64)
     requires { ⌜ at + 9 ≤ length (now line) ⌝ }
     ensures { λ _. ⌜ now (line .exit) ≡ take at (now (line .entry)) ++ (Number.text 9 z ++ drop (at + 9) (now (line .entry))) ⌝ }
@@ -286,6 +295,7 @@ fn bit(b: bool) -> u64
     if b { 1 } else { 0 }
 }
 
+// A line of the table, with its line feed.
 fn put_row(line: &mut [u8], r: Row)
     requires { ⌜ length (now line) ≡ 61 ⌝ }
     ensures { λ _. ⌜ now (line .exit) ≡ Output.lineOf r ⌝ }
@@ -302,6 +312,7 @@ fn put_row(line: &mut [u8], r: Row)
     line[60] = 10;
 }
 
+// The table at the start of the output; the rest of the output stays.
 fn put_rows(output: &mut [u8], rows: [Row; 8])
     requires { ⌜ 488 ≤ length (now output) ⌝ }
     ensures { λ _. ⌜ now (output .exit) ≡ Output.table rows ++ drop 488 (now (output .entry)) ⌝ }
@@ -315,7 +326,7 @@ fn put_rows(output: &mut [u8], rows: [Row; 8])
     }
 }
 
-// Reads the input and writes the table of its monitor at the start of the output.
+// Reads the input, monitors it and writes the table at the start of the output: refusals 13, 1, 7, 11, 14.
 pub fn report(input: &[u8], output: &mut [u8]) -> ReportAnswer
     ensures { λ r. ⌜ (Report.answerOf r (now (output .exit)) ≡ Report.reporting (now (input .entry)) (now (output .entry))) × (now (output .exit) ≡ orBlank (now (output .entry)) (Report.reporting (now (input .entry)) (now (output .entry)))) ⌝ }
 {
