@@ -31,12 +31,12 @@ use Rattle.report.proofs.RoundTrip.{Fits, Whole, printed-whole}
 
 -- ---- the table of any bounds of at most `most`
 module _ (ER : ℕ) (e : ℕ → ℕ) (most : ℕ) (small : (i : ℕ) → e i ≤ most) where
-  left-range : (i : ℕ) → left ER e (suc i) ≤ most * i
+  pub left-range : (i : ℕ) → left ER e (suc i) ≤ most * i
   unfolding left
   left-range zero = omega arith
   left-range (suc i) = omega (arith, left-range i, left-next ER e i, small (suc i))
 
-  sched-range : (i : ℕ) → sched ER e (suc i) ≤ most * suc i
+  pub sched-range : (i : ℕ) → sched ER e (suc i) ≤ most * suc i
   sched-range i = omega (arith, sched-le ER e (suc i), left-range i, small (suc i))
 
   shortfall-range : (i : ℕ) → shortfall ER e (suc i) ≤ most * i
@@ -44,10 +44,10 @@ module _ (ER : ℕ) (e : ℕ → ℕ) (most : ℕ) (small : (i : ℕ) → e i �
   shortfall-range zero = omega arith
   shortfall-range (suc i) = omega (arith, shortfall-range i, small (suc i))
 
-  back-range : (i : ℕ) → back ER e (suc i) ≤ most * i
+  pub back-range : (i : ℕ) → back ER e (suc i) ≤ most * i
   back-range i = omega (arith, back-le ER e (suc i), shortfall-range i)
 
-  start-range : (REV i : ℕ) → (above (start REV ER e (suc i)) ≤ REV) × (below (start REV ER e (suc i)) ≤ most * i)
+  pub start-range : (REV i : ℕ) → (above (start REV ER e (suc i)) ≤ REV) × (below (start REV ER e (suc i)) ≤ most * i)
   start-range REV i =
       let s = shortfall ER e (suc i) in
       rw (start-is REV ER e (suc i)) (omega (arith, less (pos REV) (pos s), one-sided (pos REV -ℤ pos s), shortfall-range i))
