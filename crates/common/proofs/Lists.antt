@@ -9,6 +9,7 @@ use native.Mathlib.Omega.{arith}
 use lib.ListN.{length, getD, take, drop, replicate, drop-of-length-le}
 use lib.Seq.{take-suc, drop-cons}
 use Rattle.common.specs.Lists.{sum, every, some}
+use Rattle.common.proofs.Tests.{neither}
 
 pub sum-append : (ms ns : List ℕ) → sum (ms ++ ns) ≡ sum ms + sum ns
 unfolding sum
@@ -81,3 +82,10 @@ module _ {A : Type 0} (holds : A → Bool) (xs : List A) (i : ℕ) (d : A) where
 pub some-none : {A : Type 0} (holds : A → Bool) (xs : List A) (i : ℕ) → length xs ≤ i → some holds (drop i xs) ≡ some holds xs → false ≡ some holds xs
 unfolding some
 some-none holds xs i h same = rw (drop-of-length-le xs h) at same
+
+-- where no entry holds, and neither does what stands past the last
+pub some-not : {A : Type 0} (holds : A → Bool) (xs : List A) (i : ℕ) (d : A) → holds d ≡ false → some holds xs ≡ false → holds (getD xs i d) ≡ false
+unfolding some
+some-not holds [] i d past none = past
+some-not holds (x ∷ xs) zero d past none = neither (holds x) (some holds xs) none .0
+some-not holds (x ∷ xs) (suc i) d past none = some-not holds xs i d past (neither (holds x) (some holds xs) none .1)

@@ -1,0 +1,99 @@
+/* Calls each function of include/soe.h as a host does, and compares what it returns and every byte of what it was lent.
+ * A line for each check; the exit status is 1 where one differs. The expected numbers are derived by hand from paper 01. */
+#include <inttypes.h>
+#include <stdio.h>
+#include <string.h>
+
+#include "soe.h"
+
+/* Paper 01's example. */
+static const char INPUT[] =
+    "        1        0        0      100\n"
+    "    15000   100000\n"
+    "    12000    85000\n"
+    "    20000    72999\n"
+    "    40000    53000\n"
+    "    30000    20000\n"
+    "     4000        0\n"
+    "     5000     6000\n"
+    "     1000    21000\n";
+
+static const char TABLE[] =
+    " 1    15000   100000    85000    15000        0        0 0 1\n"
+    " 2    12000    85000    73000    12000        0        0 0 1\n"
+    " 3    20000    73000    53000    20000        0        0 0 0\n"
+    " 4    40000    53000    13000    20000        0        0 0 1\n"
+    " 5    30000    13000    -2000    20000    15000    20000 1 1\n"
+    " 6     4000    -2000     6000    20000    12000    30000 1 1\n"
+    " 7     5000     6000    21000    19000    20000    14000 0 1\n"
+    " 8     1000    21000    40000     1000    20000        0 0 1\n";
+
+/* Where the example's lines 1 and 2 begin; a number has nine columns. */
+#define LINE1 0
+#define LINE2 37
+#define COLUMNS 9
+
+#define ROOM 500
+
+static int differences = 0;
+
+static void check(const char *what, int64_t got, int64_t expected, int kept) {
+    int same = got == expected && kept;
+    if (!same)
+        differences = 1;
+    printf("%-12s %s: returned %" PRId64 ", expected %" PRId64 "; bytes %s\n", same ? "same" : "DIFFERENCE", what, got, expected,
+           kept ? "as expected" : "NOT as expected");
+}
+
+/* The report of the example with `number` in the nine columns at `at`, on `length` bytes of it and `room` bytes of output. The
+ * 190th byte of the input is a blank. */
+static void report(const char *what, size_t at, const char *number, size_t length, size_t room, int64_t expected) {
+    uint8_t input[SOE_REPORT_INPUT + 1], lent[SOE_REPORT_INPUT + 1], output[ROOM], after[ROOM];
+    memcpy(input, INPUT, SOE_REPORT_INPUT);
+    input[SOE_REPORT_INPUT] = ' ';
+    memcpy(input + at, number, COLUMNS);
+    memcpy(lent, input, sizeof lent);
+    for (size_t i = 0; i < ROOM; i++)
+        output[i] = after[i] = (uint8_t)(i * 7 + 1);
+    if (expected == 0)
+        memcpy(after, TABLE, SOE_REPORT_OUTPUT);
+    int64_t got = soe_report(input, length, output, room);
+    check(what, got, expected, memcmp(output, after, ROOM) == 0 && memcmp(input, lent, sizeof lent) == 0);
+}
+
+static void terms(const char *what, int64_t expected, uint32_t low_dc, uint32_t low_dm, uint32_t low_dr, uint32_t high_dc,
+                  uint32_t high_dm, uint32_t high_dr, int64_t export_limit, int64_t import_limit) {
+    check(what, soe_terms(low_dc, low_dm, low_dr, high_dc, high_dm, high_dr, export_limit, import_limit), expected, 1);
+}
+
+int main(void) {
+    report("report, the paper's example", LINE1, "        1", 189, 488, 0);
+    report("report, bytes past 488 are kept", LINE1, "        1", 189, ROOM, 0);
+    report("report, direction 2", LINE1, "        2", 189, ROOM, 0);
+    report("report, direction 3", LINE1, "        3", 189, ROOM, -13);
+    report("report, leading zero", LINE2, "   015000", 189, ROOM, -13);
+    report("report, sign", LINE2, "   +15000", 189, ROOM, -13);
+    report("report, 188 bytes", LINE1, "        1", 188, ROOM, -13);
+    report("report, 190 bytes", LINE1, "        1", 190, ROOM, -13);
+    report("report, no bytes and no room", LINE1, "        1", 0, 0, -13);
+    report("report, quantity 0", LINE1 + 3 * COLUMNS, "        0", 189, ROOM, -1);
+    report("report, quantity 1,001 MW", LINE1 + 3 * COLUMNS, "     1001", 189, ROOM, -1);
+    report("report, quantity 0 before room", LINE1 + 3 * COLUMNS, "        0", 189, 487, -1);
+    report("report, bound 50,001", LINE2, "    50001", 189, ROOM, -7);
+    report("report, reported 10,000,001", LINE2 + COLUMNS, " 10000001", 189, ROOM, -11);
+    report("report, room for 487 bytes", LINE1, "        1", 189, 487, -14);
+
+    /* 7 MW low with 2,100 kW reserved, 56 MW high with 16,800 kW reserved. */
+    terms("terms, limits just met", 0, 1, 2, 4, 8, 16, 32, 23800, 58100);
+    terms("terms, export limit a kW short", -2, 1, 2, 4, 8, 16, 32, 23799, 58100);
+    terms("terms, import limit a kW short", -2, 1, 2, 4, 8, 16, 32, 23800, 58099);
+    terms("terms, 40 MW DM each way, limits just met", 0, 0, 40, 0, 0, 40, 0, 48000, 48000);
+    terms("terms, 40 MW DM each way, import limit a kW short", -2, 0, 40, 0, 0, 40, 0, 48000, 47999);
+    terms("terms, limit below 0", -2, 0, 0, 0, 0, 0, 0, -1, 0);
+    terms("terms, limit of 2,000,000", 0, 0, 0, 0, 0, 0, 0, 2000000, 2000000);
+    terms("terms, limit of 2,000,001", -2, 0, 0, 0, 0, 0, 0, 2000001, 2000000);
+    terms("terms, 1,000 MW of low", 0, 600, 400, 0, 0, 0, 0, 2000000, 2000000);
+    terms("terms, 1,001 MW of low before the limits", -1, 600, 400, 1, 0, 0, 0, -1, -1);
+    terms("terms, 1,001 MW of high", -1, 0, 0, 0, 1, 0, 1000, 2000000, 2000000);
+    return differences;
+}

@@ -1,0 +1,4 @@
+pub mod Input
+pub mod Number
+pub mod Output
+pub mod Report

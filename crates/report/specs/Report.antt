@@ -1,0 +1,47 @@
+-- Paper 01, "Report": from the input's bytes and a lent output to an answer and every byte of the output afterwards.
+-- Assumes nothing.
+use mathlib.Core.Bool.{not}
+use mathlib.Core.List.{List, [], _∷_, _++_}
+use Prim.Native.Nat.{ℕ}
+use lib.Dec.{ltb}
+use lib.ListN.{length, drop}
+use Rattle.common.specs.Answer.{Answer, refused, given, Cause, cause, checked}
+use Rattle.terms.specs.Terms.{REV, ER}
+use Rattle.monitor.specs.Monitor.{monitorCauses, rowsOf}
+use Rattle.report.specs.Input.{wellFormed, inputOf}
+use Rattle.report.specs.Output.{table}
+use Rattle.report.specs.declared.Input.{Input}
+use Rattle.report.specs.declared.ReportAnswer.{ReportAnswer}
+use Rattle.report.specs.declared.ReportAnswer.the-variants.{Written, Malformed, Quantity, Bound, Reported, Short}
+
+-- 13, the monitor's 1, 7, 11, then 14
+unfoldable pub reportCauses : List ℕ → List ℕ → List Cause
+reportCauses input output =
+    (cause 13 (not (wellFormed input)) ∷ [])
+    ++ monitorCauses (inputOf input .quantities) (inputOf input .bounds) (inputOf input .reported)
+    ++ (cause 14 (ltb (length output) 488) ∷ [])
+
+-- the output afterwards: the table, and past 488 the output keeps its bytes
+unfoldable pub written : Input → List ℕ → List ℕ
+written i output = table (rowsOf (REV (i .quantities)) (ER (i .quantities)) (i .bounds) (i .reported)) ++ drop 488 output
+
+unfoldable pub reporting : List ℕ → List ℕ → Answer (List ℕ)
+reporting input output = checked (reportCauses input output) (written (inputOf input) output)
+
+-- the number, or the output afterwards, of each case of the code's answer
+abbrev pub answerOf : ReportAnswer → List ℕ → Answer (List ℕ)
+answerOf Written output = given output
+answerOf Malformed output = refused 13
+answerOf Quantity output = refused 1
+answerOf Bound output = refused 7
+answerOf Reported output = refused 11
+answerOf Short output = refused 14
+
+-- a refusal's number, 0 where the table was written
+abbrev pub numberOf : ReportAnswer → ℕ
+numberOf Written = 0
+numberOf Malformed = 13
+numberOf Quantity = 1
+numberOf Bound = 7
+numberOf Reported = 11
+numberOf Short = 14

@@ -1,0 +1,56 @@
+/* State of energy: the functions that a host written in C calls. They are in target/staticlib/libhost.a, which `rt staticlib host`
+ * makes; each has a proved contract in crates/host/src/lib.rt.
+ *
+ * Returned number, the same for every function: 0 or more is the answer, -n is refusal n. The refusals are checked in the order
+ * in which they stand below, and the first whose cause holds is returned.
+ *
+ * Pointers: each is the caller's before and after the call, nothing is kept, allocated or freed, and only what is named as
+ * output is written. The caller sees to it that a pointer is not null, also where its length is 0, that it leads to as many
+ * bytes as its length says, and that an output overlaps no other argument. Every other argument may have any value. */
+#ifndef SOE_H
+#define SOE_H
+
+#include <stddef.h>
+#include <stdint.h>
+
+#ifdef __cplusplus
+extern "C" {
+#endif
+
+/* The bytes of a report's input and of the table. */
+#define SOE_REPORT_INPUT 189
+#define SOE_REPORT_OUTPUT 488
+
+/* The report of one direction. The input is nine lines ended by a line feed, 189 bytes; each number is decimal digits,
+ * right-justified in nine columns, no sign, no leading zero, zero is one 0. Line 1: direction (1 low, 2 high), quantities in MW
+ * for DC, DM and DR. Lines 2 to 9, a line for each period: bound and reported energy, in kWh.
+ *
+ * 0: the table was written to the first 488 bytes of output, and the bytes past them are as they were. It has a line for each
+ * period: period in two columns; bound, start, end, sched, back and left in nine columns each; flag (1: unavailability is
+ * allowed) and verdict (1: the period passes) in two columns each.
+ *
+ * Refusals, all of the output being as it was:
+ *   -13  the text is malformed, has another length, or names another direction
+ *    -1  the quantity is 0 or above 1,000 MW
+ *    -7  a bound is above 500 times the quantity
+ *   -11  a reported energy is above 10,000,000
+ *   -14  the output has fewer than 488 bytes */
+int64_t soe_report(const uint8_t *input, size_t input_length, uint8_t *output, size_t output_length);
+
+/* The terms check: quantities in MW for each direction and service, power limits in kW. Low means export, high import.
+ *
+ * 0: the terms are good.
+ *
+ * Refusals:
+ *    -1  a direction's quantity, the sum of its three, is above 1,000 MW
+ *    -2  a limit is outside 0 to 2,000,000; or the low quantity in kW plus the power reserved for high, which is 100, 200 and
+ *        400 kW for each MW of DC, DM and DR, is above the export limit; or the same of high, low and the import limit */
+int64_t soe_terms(uint32_t low_dc, uint32_t low_dm, uint32_t low_dr,
+                  uint32_t high_dc, uint32_t high_dm, uint32_t high_dr,
+                  int64_t export_limit, int64_t import_limit);
+
+#ifdef __cplusplus
+}
+#endif
+
+#endif
