@@ -66,6 +66,21 @@ static void terms(const char *what, int64_t expected, uint32_t low_dc, uint32_t 
     check(what, soe_terms(low_dc, low_dm, low_dr, high_dc, high_dm, high_dr, export_limit, import_limit), expected, 1);
 }
 
+/* Points of paper 01, in kW, four bytes a number and the lowest first. */
+static const uint32_t FOUR[] = {0, 0, 10000, 9000, 50000, 25000, 100000, 40000};
+static const uint32_t THREE[] = {0, 0, 30000, 20000, 100000, 60000};
+
+/* The quantity with a MIL of -100 MW and a MEL of 100 MW, and `length` bytes of the points. */
+static void quantity(const char *what, int64_t expected, uint32_t direction, int64_t sil, int64_t sel, int64_t ol,
+                     const uint32_t *points, size_t length, uint32_t limit) {
+    uint8_t bytes[48] = {0}, lent[48];
+    for (size_t i = 0; i < length; i++)
+        bytes[i] = (uint8_t)(points[i / 4] >> 8 * (i % 4));
+    memcpy(lent, bytes, sizeof lent);
+    int64_t got = soe_quantity(direction, -100000, sil, sel, 100000, ol, bytes, length, limit);
+    check(what, got, expected, memcmp(bytes, lent, sizeof lent) == 0);
+}
+
 int main(void) {
     report("report, the paper's example", LINE1, "        1", 189, 488, 0);
     report("report, bytes past 488 are kept", LINE1, "        1", 189, ROOM, 0);
@@ -95,5 +110,18 @@ int main(void) {
     terms("terms, 1,000 MW of low", 0, 600, 400, 0, 0, 0, 0, 2000000, 2000000);
     terms("terms, 1,001 MW of low before the limits", -1, 600, 400, 1, 0, 0, 0, -1, -1);
     terms("terms, 1,001 MW of high", -1, 0, 0, 0, 1, 0, 1000, 2000000, 2000000);
+
+    quantity("quantity, headroom 30 MW", 17000, 1, 0, 0, 70000, FOUR, 32, 4000000);
+    quantity("quantity, headroom 150 MW, past the last point", 55000, 1, 0, 0, -50000, FOUR, 32, 4000000);
+    quantity("quantity, headroom 40 MW by SIL", 21000, 1, -10000, 10000, -50000, FOUR, 32, 4000000);
+    quantity("quantity, between SIL and SEL", 0, 1, -10000, 10000, 0, FOUR, 32, 4000000);
+    quantity("quantity, footroom 170 MW", 100000, 2, 0, 0, 70000, THREE, 24, 4000000);
+    quantity("quantity, footroom 30 MW by SEL", 20000, 2, 0, 10000, 40000, THREE, 24, 4000000);
+    quantity("quantity, the limit is smaller", 16999, 1, 0, 0, 70000, FOUR, 32, 16999);
+    quantity("quantity, limit 4,000,001", -12, 1, 0, 0, 70000, FOUR, 32, 4000001);
+    quantity("quantity, direction 3", -12, 3, 0, 0, 70000, FOUR, 32, 4000000);
+    quantity("quantity, level above MEL", -12, 1, 0, 0, 100001, FOUR, 32, 4000000);
+    quantity("quantity, one point", -12, 1, 0, 0, 70000, FOUR, 8, 4000000);
+    quantity("quantity, a byte too few", -12, 1, 0, 0, 70000, FOUR, 31, 4000000);
     return differences;
 }

@@ -49,6 +49,20 @@ int64_t soe_terms(uint32_t low_dc, uint32_t low_dm, uint32_t low_dr,
                   uint32_t high_dc, uint32_t high_dm, uint32_t high_dr,
                   int64_t export_limit, int64_t import_limit);
 
+/* The contracted quantity of a unit in one direction (1 low, by headroom; 2 high, by footroom), in kW: the smaller of its
+ * response capability and the submitted limit. MIL, SIL, SEL and MEL are the maximum and stable import limits and the stable and
+ * maximum export limits, OL is the operating level. `points` holds 2 to 5 points, each its room and its capability as two
+ * little-endian unsigned 32-bit numbers: 16, 24, 32 or 40 bytes.
+ *
+ * 0 to 4,000,000: the quantity.
+ *
+ * Refusal:
+ *   -12  the direction is neither 1 nor 2; MIL <= SIL <= 0 <= SEL <= MEL or MIL <= OL <= MEL does not hold; one of the five is
+ *        outside -2,000,000 to 2,000,000; the points have another length, a number above 4,000,000, a first room other than 0,
+ *        rooms that do not rise or capabilities that fall; or the limit is above 4,000,000 */
+int64_t soe_quantity(uint32_t direction, int64_t mil, int64_t sil, int64_t sel, int64_t mel, int64_t ol,
+                     const uint8_t *points, size_t points_length, uint32_t limit);
+
 #ifdef __cplusplus
 }
 #endif

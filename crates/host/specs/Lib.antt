@@ -1,1 +1,2 @@
 pub mod Convention
+pub mod Points
