@@ -7,4 +7,3 @@ pub mod Responses
 pub mod Rounding
 pub mod Shares
 pub mod Sums
-pub mod Tests

@@ -14,7 +14,7 @@ use Rattle.energy.specs.Curve.{blank, pointsOf, inRange, rises, risesFro
 use Rattle.energy.specs.declared.curve.Point.{Point}
 use Rattle.energy.specs.declared.curve.Curve.{Curve}
 use Rattle.energy.proofs.Rounding.{up-zero, up-one}
-use Rattle.energy.proofs.Tests.{both}
+use Rattle.common.proofs.Tests.{both-true}
 
 -- ---- what the rule says
 
@@ -28,23 +28,23 @@ pub record Rises (p q : Point) : Type 0 where
 
 in-range : (p : Point) → inRange p ≡ true → InRange p
 in-range p e =
-    let b = both _ _ e in
+    let b = both-true _ _ e in
     record { deviation-le = leb-true _ _ (b .0); share-le = leb-true _ _ (b .1) }
 
 pub range : (p : Point) (ps : List Point) → risesFrom p ps ≡ true → InRange p
 unfolding risesFrom
 range p [] e = in-range p e
-range p (q ∷ ps) e = in-range p (both (inRange p) (rises p q) (both (inRange p && rises p q) (risesFrom q ps) e .0) .0)
+range p (q ∷ ps) e = in-range p (both-true (inRange p) (rises p q) (both-true (inRange p && rises p q) (risesFrom q ps) e .0) .0)
 
 pub rises-next : (p q : Point) (ps : List Point) → risesFrom p (q ∷ ps) ≡ true → Rises p q
 unfolding risesFrom
 rises-next p q ps e =
-    let b = both _ _ (both (inRange p) (rises p q) (both (inRange p && rises p q) (risesFrom q ps) e .0) .1) in
+    let b = both-true _ _ (both-true (inRange p) (rises p q) (both-true (inRange p && rises p q) (risesFrom q ps) e .0) .1) in
     record { farther = ltb-true _ _ (b .0); no-less = leb-true _ _ (b .1) }
 
 pub rule-next : (p q : Point) (ps : List Point) → risesFrom p (q ∷ ps) ≡ true → risesFrom q ps ≡ true
 unfolding risesFrom
-rule-next p q ps e = both (inRange p && rises p q) (risesFrom q ps) e .1
+rule-next p q ps e = both-true (inRange p && rises p q) (risesFrom q ps) e .1
 
 module _ (c : Curve) where
   abbrev pub at : ℕ → Point
@@ -67,12 +67,12 @@ module _ (c : Curve) where
   pub counted : curveRule c ≡ true → (2 ≤ c .count) × (c .count ≤ 5)
   unfolding curveRule
   counted e =
-      let b = both _ _ (both _ _ e .0) in
+      let b = both-true _ _ (both-true _ _ e .0) in
       (leb-true _ _ (b .0), leb-true _ _ (b .1))
 
   pub ruled : curveRule c ≡ true → pointsRule (pointsOf c) ≡ true
   unfolding curveRule
-  ruled e = both (leb 2 (c .count) && leb (c .count) 5) (pointsRule (pointsOf c)) e .1
+  ruled e = both-true (leb 2 (c .count) && leb (c .count) 5) (pointsRule (pointsOf c)) e .1
 
   -- ---- the loop of `curve_holds`
 
@@ -136,7 +136,7 @@ module _ (c : Curve) where
       reach h =
           record {
             within = omega (arith, counted rule);
-            rule = both (eqb (p .share) 0) (risesFrom p (rest 1)) started .1;
+            rule = both-true (eqb (p .share) 0) (risesFrom p (rest 1)) started .1;
             past = h;
             same = rw (starting, le-ltb d (p .deviation) h);
           }

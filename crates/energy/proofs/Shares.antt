@@ -9,12 +9,13 @@ use native.Mathlib.Omega.{arith}
 use borrow.Author.Tests.{lt-ltb, le-ltb, ltb-true, ltb-false, eqb-true}
 use lib.Dec.{ltb, eqb}
 use lib.ListN.{length, getD}
-use Rattle.energy.specs.Curve.{blank, Fraction, whole, between, shareFrom, shareAt, responseTo, response, risesFrom, pointsRule, pointsOf, curveRule}
+use Rattle.common.specs.Fraction.{Fraction, whole}
+use Rattle.common.proofs.Tests.{both-true}
+use Rattle.energy.specs.Curve.{blank, between, shareFrom, shareAt, responseTo, response, risesFrom, pointsRule, pointsOf, curveRule}
 use Rattle.energy.specs.declared.curve.Point.{Point}
 use Rattle.energy.specs.declared.curve.Curve.{Curve}
 use Rattle.energy.proofs.Points.{InRange, Rises, range, rises-next, rule-next, ruled}
 use Rattle.energy.proofs.Rounding.{up-one, up-zero, up-exact, up-le}
-use Rattle.energy.proofs.Tests.{both}
 
 -- on the way from s up to t, which is at most 1,000, the share is at most 1,000
 line-le : (s t w x : ℕ) → s ≤ t → t ≤ 1000 → x ≤ w → s * w + (t - s) * x ≤ 1000 * w
@@ -60,7 +61,7 @@ share-at : (ps : List Point) (d : ℕ) → pointsRule ps ≡ true → Share (sha
 share-at [] d e = absurd (false≢true e)
 share-at (p ∷ ps) d e =
     by-test Share (ltb d (p .deviation)) (whole 0) (shareFrom p ps d) (λ t. record { positive = omega arith; at-most = omega arith })
-    (λ t. share-from p ps d (both (eqb (p .share) 0) (risesFrom p ps) e .1) (ltb-false d (p .deviation) t))
+    (λ t. share-from p ps d (both-true (eqb (p .share) 0) (risesFrom p ps) e .1) (ltb-false d (p .deviation) t))
 
 -- ---- the share at deviation 0
 
@@ -80,7 +81,7 @@ from-zero p (q ∷ ps) h e =
 at-zero : (ps : List Point) → pointsRule ps ≡ true → shareAt ps 0 .numerator ≡ 0
 at-zero [] e = refl
 at-zero (p ∷ ps) e =
-    let b = both (eqb (p .share) 0) (risesFrom p ps) e in
+    let b = both-true (eqb (p .share) 0) (risesFrom p ps) e in
     by-test (λ (f : Fraction). f .numerator ≡ 0) (ltb 0 (p .deviation)) (whole 0) (shareFrom p ps 0) (λ t. refl)
     (λ t. from-zero p ps (eqb-true (p .share) 0 (b .0)) (b .1))
 
@@ -117,7 +118,7 @@ pub at-point : (mw : ℕ) (ps : List Point) (i : ℕ) → pointsRule ps ≡ true
     responseTo mw (shareAt ps (r .deviation)) ≡ mw * r .share
 at-point mw [] i e h = absurd (false≢true e)
 at-point mw (p ∷ ps) i e h =
-    let f = both (eqb (p .share) 0) (risesFrom p ps) e .1 in
+    let f = both-true (eqb (p .share) 0) (risesFrom p ps) e .1 in
     rw (le-ltb (getD (p ∷ ps) i blank .deviation) (p .deviation) (first-least p ps i f h)) (from-point mw p ps i f h)
 
 -- ---- responses

@@ -12,7 +12,8 @@ use Rattle.common.specs.Answer.{Answer, refused, given, cause, checked}
 use Rattle.common.specs.Lists.{sum, every}
 use Rattle.terms.specs.declared.Quantities.{Quantities}
 use Rattle.terms.specs.Terms.{Q}
-use Rattle.energy.specs.Curve.{roundedUp, curvesRule}
+use Rattle.common.specs.Fraction.{roundedUp}
+use Rattle.energy.specs.Curve.{curvesRule}
 use Rattle.energy.specs.Period.{Bounds, responses, isReading, goodReadings, lowDeviation, highDeviation, bound, lowBound, highBound}
 use Rattle.energy.specs.declared.curve.Curves.{Curves}
 use Rattle.energy.proofs.Responses.{responses-le}

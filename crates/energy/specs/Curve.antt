@@ -1,9 +1,10 @@
 -- Paper 01, "Period energy": curves, and a service's response to a deviation. Assumes nothing.
 use mathlib.Core.Bool.{Bool, false, cond, _&&_}
 use mathlib.Core.List.{List, [], _∷_}
-use Prim.Native.Nat.{ℕ, _+_, _-_, _*_, _/_}
+use Prim.Native.Nat.{ℕ, _*_}
 use lib.Dec.{leb, ltb, eqb}
 use lib.ListN.{take}
+use Rattle.common.specs.Fraction.{Fraction, whole, onLine, roundedUp}
 use Rattle.energy.specs.declared.curve.Point.{Point}
 use Rattle.energy.specs.declared.curve.Curve.{Curve}
 use Rattle.energy.specs.declared.curve.Curves.{Curves}
@@ -58,20 +59,9 @@ containmentCurve = record { count = 3; points = point 15 0 ∷ point 200 50 ∷ 
 
 -- ---- the share at a deviation, per mille, as an exact fraction
 
-pub record Fraction : Type 0 where
-  pub numerator : ℕ
-  pub denominator : ℕ
-
-abbrev pub whole : ℕ → Fraction
-whole n = record { numerator = n; denominator = 1 }
-
--- between points it is linear: p's share, and of the rise to q as much as d has gone of the way
+-- between points it is linear
 abbrev pub between : Point → Point → ℕ → Fraction
-between p q d =
-    record {
-      numerator = p .share * (q .deviation - p .deviation) + (q .share - p .share) * (d - p .deviation);
-      denominator = q .deviation - p .deviation;
-    }
+between p q d = onLine (p .deviation) (p .share) (q .deviation) (q .share) d
 
 -- from the point p on; past the last it stays flat
 unfoldable pub shareFrom : Point → List Point → ℕ → Fraction
@@ -84,10 +74,6 @@ shareAt [] d = whole 0
 shareAt (p ∷ ps) d = cond (ltb d (p .deviation)) (whole 0) (shareFrom p ps d)
 
 -- ---- the response
-
--- a division rounded up
-abbrev pub roundedUp : ℕ → ℕ → ℕ
-roundedUp a b = (a + (b - 1)) / b
 
 -- a service's MW times the share, in kW, rounded up after the one division
 abbrev pub responseTo : ℕ → Fraction → ℕ
