@@ -1,4 +1,5 @@
 pub mod Entry
 pub mod Kept
+pub mod Laws
 pub mod Openings
 pub mod State

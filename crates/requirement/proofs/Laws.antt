@@ -1,5 +1,5 @@
 -- What paper 01 says of every requirement, over any bounds and any number of periods. Assumes nothing.
-use mathlib.Core.Path.{_≡_, refl}
+use mathlib.Core.Path.{_≡_, refl, ap}
 use mathlib.Core.Bool.{Bool, true, false, cond}
 use mathlib.Core.List.{map}
 use Prim.Native.Nat.{ℕ, zero, suc, _+_, _-_, _≤_, _<_}
@@ -27,6 +27,16 @@ module _ (REV ER : ℕ) (e : ℕ → ℕ) where
   back-most i =
       rw (start-is REV ER e i)
       (omega (arith, whole, back-le ER e i, less (pos REV) (pos (shortfall ER e i)), less (pos REV) (pos REV -ℤ pos (shortfall ER e i))))
+
+  -- where no bound was above 0, the start is REV
+  pub start-unmoved : (i : ℕ) → ((k : ℕ) → suc k < i → e (suc k) ≡ 0) → start REV ER e i ≡ pos REV
+  unfolding shortfall
+  start-unmoved i h = rw (start-is REV ER e i, none i h) (ap pos (omega arith))
+    where
+      none : (i : ℕ) → ((k : ℕ) → suc k < i → e (suc k) ≡ 0) → shortfall ER e i ≡ 0
+      none zero h = refl
+      none (suc zero) h = refl
+      none (suc (suc i)) h = omega (arith, none (suc i) (λ k l. h k (omega arith)), h i (omega arith))
 
 -- no more comes back in a period than ER
 pub back-recovery : (ER : ℕ) (e : ℕ → ℕ) (i : ℕ) → back ER e i ≤ ER
