@@ -1,0 +1,151 @@
+//! The functions of include/soe.h, each called beside the model.
+
+use crate::model::{self, Int, Levels, Terms};
+use crate::tally::{stop, Tally};
+
+extern "C" {
+    fn soe_report(input: *const u8, input_length: usize, output: *mut u8, room: usize) -> i64;
+
+    fn soe_terms(
+        low_dc: u32,
+        low_dm: u32,
+        low_dr: u32,
+        high_dc: u32,
+        high_dm: u32,
+        high_dr: u32,
+        export_limit: i64,
+        import_limit: i64,
+    ) -> i64;
+
+    fn soe_quantity(
+        direction: u32,
+        mil: i64,
+        sil: i64,
+        sel: i64,
+        mel: i64,
+        ol: i64,
+        points: *const u8,
+        points_len: usize,
+        limit: u32,
+    ) -> i64;
+}
+
+/// The bytes behind the output, of which a call is lent the first `room`.
+pub const BEHIND: usize = 600;
+
+fn show(number: i64, output: &[u8]) -> String {
+    format!("{number}, output\n{}", String::from_utf8_lossy(output))
+}
+
+/// Compares the number, the output with the bytes past 488, and that the input is as it was.
+pub fn report(topic: &'static str, input: &[u8], room: usize, tally: &mut Tally) {
+    assert!(room <= BEHIND);
+    let before: Vec<u8> = (0..BEHIND).map(|i| (i * 7 + 1) as u8).collect();
+    let (mut expected, number) = (
+        before.clone(),
+        match model::report(input, room) {
+            Ok(_) => 0,
+            Err(number) => -number,
+        },
+    );
+    if let Ok(text) = model::report(input, room) {
+        expected[..text.len()].copy_from_slice(text.as_bytes());
+    }
+    let lent = input.to_vec();
+    let mut output = before;
+    // SAFETY: as include/soe.h asks: both pointers lead to as many bytes as their lengths say, and do not overlap.
+    let found = unsafe { soe_report(lent.as_ptr(), lent.len(), output.as_mut_ptr(), room) };
+    if found != number || output != expected || lent != input {
+        let mut shown = format!("soe_report, room {room}, {} bytes:\n", input.len()).into_bytes();
+        shown.extend(input);
+        stop(
+            topic,
+            &shown,
+            &show(number, &expected),
+            &show(found, &output),
+        );
+    }
+    tally.count(topic, "soe_report", -number);
+}
+
+/// The quantities fit u32, the limits i64.
+pub fn terms(topic: &'static str, terms: &Terms, tally: &mut Tally) -> i64 {
+    let (l, h) = (
+        terms.low.0.map(|q| q as u32),
+        terms.high.0.map(|q| q as u32),
+    );
+    let (export, import) = (terms.export_limit as i64, terms.import_limit as i64);
+    let expected = -model::terms_check(terms);
+    // SAFETY: every argument may have any value.
+    let found = unsafe { soe_terms(l[0], l[1], l[2], h[0], h[1], h[2], export, import) };
+    if found != expected {
+        let shown = format!("soe_terms {l:?} {h:?} {export} {import}\n");
+        stop(
+            topic,
+            shown.as_bytes(),
+            &expected.to_string(),
+            &found.to_string(),
+        );
+    }
+    tally.count(topic, "soe_terms", -expected);
+    expected
+}
+
+/// The points as bytes: pairs of little-endian u32, room and capability.
+pub fn bytes_of(points: &[(Int, Int)]) -> Vec<u8> {
+    let numbers = points.iter().flat_map(|&(r, c)| [r, c]);
+    numbers.flat_map(|n| (n as u32).to_le_bytes()).collect()
+}
+
+/// `bytes` of a length other than 16, 24, 32 or 40 have no points to read: 12.
+pub fn quantity(
+    topic: &'static str,
+    direction: u32,
+    levels: &Levels,
+    bytes: &[u8],
+    limit: u32,
+    tally: &mut Tally,
+) -> i64 {
+    let l = levels;
+    let number = |b: &[u8]| Int::from(u32::from_le_bytes(b.try_into().unwrap()));
+    let points: Vec<(Int, Int)> = if bytes.len() % 8 == 0 {
+        bytes
+            .chunks(8)
+            .map(|b| (number(&b[..4]), number(&b[4..])))
+            .collect()
+    } else {
+        Vec::new()
+    };
+    let (expected, refusal) = match model::quantity(direction.into(), l, &points, limit.into()) {
+        Ok(quantity) => (quantity as i64, 0),
+        Err(number) => (-number, number),
+    };
+    // SAFETY: the pointer is not null, also for no bytes, and leads to as many bytes as its length says.
+    let found = unsafe {
+        soe_quantity(
+            direction,
+            l.mil as i64,
+            l.sil as i64,
+            l.sel as i64,
+            l.mel as i64,
+            l.ol as i64,
+            bytes.as_ptr(),
+            bytes.len(),
+            limit,
+        )
+    };
+    if found != expected {
+        let shown = format!(
+            "soe_quantity, direction {direction}, {l:?}, points {points:?} ({} bytes), limit {limit}\n",
+            bytes.len()
+        );
+        stop(
+            topic,
+            shown.as_bytes(),
+            &expected.to_string(),
+            &found.to_string(),
+        );
+    }
+    tally.count(topic, "soe_quantity", refusal);
+    expected
+}

@@ -1,0 +1,368 @@
+//! Cases for the functions of include/soe.h.
+
+use crate::host::{self, BEHIND};
+use crate::model::{self, Direction, Int, Levels, Terms};
+use crate::papers::REPORT_INPUT;
+use crate::random::Random;
+use crate::tally::Tally;
+
+const MAX: Int = u32::MAX as Int;
+
+/// Numbers whose sums of two or three pass 2^32, among others.
+const WIDE: [Int; 10] = [
+    0,
+    1,
+    2,
+    1_000,
+    1_001,
+    0x5555_5555,
+    0x5555_5556,
+    0x8000_0000,
+    MAX - 1,
+    MAX,
+];
+
+const I64: [Int; 2] = [i64::MIN as Int, i64::MAX as Int];
+
+/// Quantities of a direction: few MW, 1,000 MW and beside it, or any u32.
+pub fn any_direction(random: &mut Random) -> Direction {
+    match random.below(6) {
+        0 => Direction::default(),
+        1 => {
+            let mut mw = [0; 3];
+            mw[random.below(3)] = random.near(&[1, 1_000]).max(0);
+            Direction(mw)
+        }
+        2 => {
+            let sum = random.near(&[1_000]);
+            let a = random.between(0, sum);
+            let b = random.between(0, sum - a);
+            Direction([a, b, sum - a - b])
+        }
+        3 => Direction([(); 3].map(|()| random.pick(&WIDE))),
+        _ => Direction([(); 3].map(|()| random.between(0, 333))),
+    }
+}
+
+/// A limit at what is needed or beside it, at its range's ends or beside them, or anything.
+fn any_limit(random: &mut Random, need: Int) -> Int {
+    match random.below(8) {
+        0 => random.near(&[0, 2_000_000]),
+        1 => random.pick(&I64),
+        2 => random.between(-10, 2_000_010),
+        3 => 2_000_000,
+        _ => random.near(&[need.min(4_000_000)]),
+    }
+}
+
+pub fn any_terms(random: &mut Random) -> Terms {
+    let mut terms = Terms {
+        low: any_direction(random),
+        high: any_direction(random),
+        ..Terms::default()
+    };
+    terms.export_limit = any_limit(random, terms.export_need());
+    terms.import_limit = any_limit(random, terms.import_need());
+    terms
+}
+
+pub fn terms(random: &mut Random, count: usize, tally: &mut Tally) {
+    for _ in 0..count {
+        host::terms("terms", &any_terms(random), tally);
+    }
+}
+
+fn good_levels(random: &mut Random) -> Levels {
+    let wide = random.pick(&[3, 100, 50_000, 2_000_000]);
+    let mel = random.within(0, wide);
+    let mil = -random.within(0, wide);
+    let (sil, sel) = if random.once_in(3) {
+        (0, 0)
+    } else {
+        (random.within(mil, 0), random.within(0, mel))
+    };
+    let corner = random.pick(&[mil, sil, sel, mel]);
+    let ol = match random.below(3) {
+        0 => (corner + random.between(-1, 1)).clamp(mil, mel),
+        _ => random.within(mil, mel),
+    };
+    Levels {
+        mil,
+        sil,
+        sel,
+        mel,
+        ol,
+    }
+}
+
+/// `count` numbers from 0 to `high`, in order; no two alike where `strict`.
+pub fn rising(random: &mut Random, count: usize, high: Int, strict: bool) -> Vec<Int> {
+    loop {
+        let mut numbers: Vec<Int> = (0..count).map(|_| random.within(0, high)).collect();
+        numbers.sort();
+        if !strict || numbers.windows(2).all(|w| w[0] < w[1]) {
+            return numbers;
+        }
+    }
+}
+
+fn good_points(random: &mut Random) -> Vec<(Int, Int)> {
+    let count = 2 + random.below(4);
+    let high = random.pick(&[10, 1_000, 100_000, 4_000_000]);
+    let mut rooms = rising(random, count, high, true);
+    rooms[0] = 0;
+    let most = random.pick(&[0, 7, high, 4_000_000]);
+    let capabilities = rising(random, count, most, false);
+    rooms.into_iter().zip(capabilities).collect()
+}
+
+fn break_levels(random: &mut Random, levels: &mut Levels) {
+    let field = match random.below(5) {
+        0 => &mut levels.mil,
+        1 => &mut levels.sil,
+        2 => &mut levels.sel,
+        3 => &mut levels.mel,
+        _ => &mut levels.ol,
+    };
+    *field = match random.below(4) {
+        0 => random.near(&[-2_000_000, 0, 2_000_000]),
+        1 => random.pick(&I64),
+        2 => *field + random.between(-1, 1),
+        _ => -*field,
+    };
+}
+
+fn break_points(random: &mut Random, points: &mut Vec<(Int, Int)>) {
+    let i = random.below(points.len());
+    match random.below(8) {
+        0 => points[i].0 = random.pick(&[1, MAX, 4_000_000, 4_000_001]),
+        1 => points[i].1 = random.pick(&[0, MAX, 4_000_000, 4_000_001]),
+        2 => points[i] = points[random.below(i + 1)],
+        3 => points.reverse(),
+        4 => points.truncate(i),
+        5 => {
+            points.extend_from_within(..);
+            points.truncate(6);
+        }
+        6 => points[i].0 = (points[i].0 + random.between(-1, 1)).max(0),
+        _ => points[i].1 = (points[i].1 + random.between(-1, 1)).max(0),
+    }
+}
+
+pub fn quantity(random: &mut Random, count: usize, tally: &mut Tally) {
+    const TOPIC: &str = "quantity";
+    for _ in 0..count {
+        let mut levels = good_levels(random);
+        let mut points = good_points(random);
+        let mut direction = random.between(1, 2) as u32;
+        let mut limit = random.within(0, 4_000_000) as u32;
+        for _ in 0..random.below(3) {
+            match random.below(4) {
+                0 => break_levels(random, &mut levels),
+                1 if !points.is_empty() => break_points(random, &mut points),
+                2 => limit = random.pick(&[0, 1, 3_999_999, 4_000_000, 4_000_001, u32::MAX]),
+                _ => direction = random.pick(&[0, 1, 2, 3, 257, 258, u32::MAX]),
+            }
+        }
+        let mut bytes = host::bytes_of(&points);
+        if random.once_in(10) {
+            let length = random.below(58);
+            bytes.resize(length, 0);
+        }
+        host::quantity(TOPIC, direction, &levels, &bytes, limit, tally);
+    }
+    // Each length of the points' bytes, around the ones that hold 2 to 5 points.
+    let levels = good_levels(random);
+    let rising = host::bytes_of(&(0..8).map(|i| (i, i)).collect::<Vec<_>>());
+    for length in 0..=rising.len() {
+        host::quantity(TOPIC, 1, &levels, &rising[..length], 4_000_000, tally);
+    }
+}
+
+/// The 24 numbers of a report's input.
+struct ReportNumbers {
+    first: [Int; 4],
+    bounds: [Int; 8],
+    reported: [Int; 8],
+}
+
+impl ReportNumbers {
+    fn text(&self) -> Vec<u8> {
+        let mut text: String = self.first.iter().map(|n| format!("{n:9}")).collect();
+        text += "\n";
+        for i in 0..8 {
+            text += &format!("{:9}{:9}\n", self.bounds[i], self.reported[i]);
+        }
+        text.into_bytes()
+    }
+}
+
+/// Bounds and reported energies that nothing refuses, near the requirements where they can be.
+fn good_numbers(random: &mut Random) -> ReportNumbers {
+    let direction = good_direction(random);
+    let bounds = good_bounds(random, &direction);
+    let reported = good_reported(random, &direction, &bounds);
+    let [dc, dm, dr] = direction.0;
+    ReportNumbers {
+        first: [random.between(1, 2), dc, dm, dr],
+        bounds,
+        reported,
+    }
+}
+
+/// 1 to 1,000 MW.
+pub fn good_direction(random: &mut Random) -> Direction {
+    loop {
+        let mut mw = match random.below(4) {
+            0 => [0; 3],
+            1 => [(); 3].map(|()| random.between(0, 3)),
+            _ => [(); 3].map(|()| random.between(0, 333)),
+        };
+        let service = random.below(3);
+        match random.below(4) {
+            0 => mw[service] = 1_000 - mw.iter().sum::<Int>() + mw[service],
+            1 => mw[service] = random.between(1, 400),
+            _ => {}
+        }
+        let direction = Direction(mw);
+        if (1..=1_000).contains(&direction.quantity()) {
+            return direction;
+        }
+    }
+}
+
+/// Eight bounds of 0 to 500 × Q: full, none, around what a period recovers, or anything.
+pub fn good_bounds(random: &mut Random, direction: &Direction) -> [Int; 8] {
+    let most = direction.greatest_bound();
+    let style = random.below(6);
+    [(); 8].map(|()| match style {
+        0 => most,
+        1 => random.pick(&[0, most]),
+        2 => random.near(&[direction.er()]).clamp(0, most),
+        3 => random.between(0, direction.er().min(most)),
+        4 => random.within(0, most),
+        _ => random.pick(&[0, 0, 0, most / 2 + 1]),
+    })
+}
+
+/// Eight reported energies at the starts, a kWh beside them, or anything.
+pub fn good_reported(random: &mut Random, direction: &Direction, bounds: &[Int; 8]) -> [Int; 8] {
+    let rows = model::requirement(direction.rev(), direction.er(), bounds);
+    let mut reported = [0; 8];
+    for i in 0..8 {
+        reported[i] = match random.below(4) {
+            0 => random.within(0, 10_000_000),
+            _ => random.near(&[rows[i].start]).clamp(0, 10_000_000),
+        };
+    }
+    reported
+}
+
+/// One number beyond what a check allows.
+fn break_numbers(random: &mut Random, numbers: &mut ReportNumbers) {
+    let i = random.below(8);
+    let quantity: Int = numbers.first[1..].iter().sum();
+    match random.below(4) {
+        0 => {
+            let service = 1 + random.below(3);
+            let others = quantity - numbers.first[service];
+            numbers.first[service] = match random.below(3) {
+                0 => random.near(&[1_000]) - others.min(999),
+                1 => random.pick(&[0, 1_000, 1_001, 999_999_999]),
+                _ => random.between(0, 1_500),
+            };
+        }
+        1 => numbers.first = [random.between(1, 2), 0, 0, 0],
+        2 => numbers.bounds[i] = random.near(&[500 * quantity.min(1_000_000) + 1, 999_999_998]),
+        _ => numbers.reported[i] = random.near(&[10_000_000, 999_999_998]),
+    }
+}
+
+const ROOMS: [usize; 9] = [0, 1, 61, 487, 488, 489, 500, 599, BEHIND];
+
+/// Bytes that stand for others in a damaged text.
+const BYTES: [u8; 16] = [
+    b' ', b'0', b'1', b'2', b'9', b'\n', b'\r', b'\t', b'+', b'-', b'.', b'/', b':', 0, 0x80, 0xff,
+];
+
+pub fn reports(random: &mut Random, count: usize, tally: &mut Tally) {
+    for _ in 0..count {
+        let mut numbers = good_numbers(random);
+        for _ in 0..random.below(4) {
+            break_numbers(random, &mut numbers);
+        }
+        let mut text = numbers.text();
+        if random.once_in(4) {
+            for _ in 0..=random.below(2) {
+                let at = random.below(text.len());
+                text[at] = random.pick(&BYTES);
+            }
+        }
+        let room = if random.once_in(3) {
+            random.pick(&ROOMS)
+        } else {
+            random.pick(&[488, 489, BEHIND])
+        };
+        host::report("report", &text, room, tally);
+    }
+}
+
+/// A text with each byte value at each place, cut and lengthened to each length, with a byte left out or put in at each
+/// place, and each room.
+pub fn damaged_reports(tally: &mut Tally) {
+    const TOPIC: &str = "report, damaged";
+    let text = REPORT_INPUT.as_bytes();
+    for at in 0..text.len() {
+        for byte in 0..=u8::MAX {
+            let mut damaged = text.to_vec();
+            damaged[at] = byte;
+            host::report(TOPIC, &damaged, 488, tally);
+        }
+        damaged_at(TOPIC, text, at, tally);
+    }
+    for room in 0..=BEHIND {
+        host::report(TOPIC, text, room, tally);
+    }
+    lengths(TOPIC, text, tally);
+}
+
+/// The same of a random text, with several byte values at each place.
+pub fn damaged_random_report(random: &mut Random, tally: &mut Tally) {
+    const TOPIC: &str = "report, damaged";
+    let text = good_numbers(random).text();
+    for at in 0..text.len() {
+        for byte in BYTES {
+            let mut damaged = text.clone();
+            damaged[at] = byte;
+            host::report(TOPIC, &damaged, 488, tally);
+        }
+        damaged_at(TOPIC, &text, at, tally);
+    }
+    lengths(TOPIC, &text, tally);
+}
+
+fn damaged_at(topic: &'static str, text: &[u8], at: usize, tally: &mut Tally) {
+    let mut shorter = text.to_vec();
+    shorter.remove(at);
+    host::report(topic, &shorter, 488, tally);
+    // One byte left out and one put in at the end: the length is right.
+    shorter.push(b'\n');
+    host::report(topic, &shorter, 488, tally);
+    for byte in [b' ', b'0', b'\n'] {
+        let mut longer = text.to_vec();
+        longer.insert(at, byte);
+        host::report(topic, &longer, 488, tally);
+        longer.pop();
+        host::report(topic, &longer, 488, tally);
+    }
+}
+
+fn lengths(topic: &'static str, text: &[u8], tally: &mut Tally) {
+    for length in 0..=text.len() + 20 {
+        let mut cut = text.to_vec();
+        for byte in [b' ', b'\n', 0] {
+            cut.resize(length, byte);
+            host::report(topic, &cut, 488, tally);
+        }
+    }
+}

@@ -1,0 +1,61 @@
+//! Compares the proved code with a second program that was written from paper 01 alone: the functions of include/soe.h as a
+//! host calls them, and the rest through the program ledger_trace.
+//!
+//! `compare SEED ROUNDS LEDGER_TRACE`, from the repository's root. It stops at the first difference with exit status 1.
+
+mod host;
+mod host_cases;
+mod model;
+mod papers;
+mod random;
+mod tally;
+mod trace;
+mod trace_cases;
+
+use random::Random;
+use tally::Tally;
+use trace::Runs;
+
+fn main() {
+    let arguments: Vec<String> = std::env::args().skip(1).collect();
+    let number = |i: usize| arguments.get(i).and_then(|a| a.parse::<u64>().ok());
+    let (Some(seed), Some(rounds), Some(program)) = (number(0), number(1), arguments.get(2)) else {
+        eprintln!("compare SEED ROUNDS LEDGER_TRACE");
+        std::process::exit(2);
+    };
+    let random = &mut Random::new(seed);
+    let tally = &mut Tally::default();
+    let runs = &mut Runs::new(program.clone());
+
+    papers::compare(runs, tally);
+    host_cases::damaged_reports(tally);
+    trace_cases::energy_edges(random, runs, tally);
+    trace_cases::block_edges(runs, tally);
+    trace_cases::malformed(runs, tally);
+    for _ in 0..rounds {
+        host_cases::terms(random, 1_000, tally);
+        host_cases::quantity(random, 1_000, tally);
+        host_cases::reports(random, 1_000, tally);
+        host_cases::damaged_random_report(random, tally);
+        for _ in 0..4 {
+            runs.add(trace_cases::energy(random), tally);
+            runs.add(trace_cases::monitor(random), tally);
+            runs.add(trace_cases::opening(random), tally);
+            runs.add(trace_cases::list(random), tally);
+            runs.add(trace_cases::made_up(random), tally);
+        }
+        runs.add(trace_cases::energy_refusals(random), tally);
+        runs.add(trace_cases::block(random), tally);
+        runs.add(trace_cases::opening_causes(random), tally);
+        runs.add(trace_cases::broken_closings(random), tally);
+        runs.add(trace_cases::blank_record(random), tally);
+    }
+    runs.run(tally);
+
+    println!("cases by topic and call, and how many gave which refusal (0: none)");
+    tally.print();
+    println!(
+        "compare: {} cases, no difference (seed {seed})",
+        tally.total()
+    );
+}

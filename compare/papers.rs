@@ -1,0 +1,226 @@
+//! The examples of paper 01 and the tables of documents 000 and 003 as they are printed, asserted of the model and compared.
+
+use crate::host;
+use crate::model::{self, Curve, Direction, Int, Levels, Terms};
+use crate::tally::Tally;
+use crate::trace::{Runs, Script};
+
+const TOPIC: &str = "papers";
+
+/// Paper 01, Report.
+pub const REPORT_INPUT: &str = "        1        0        0      100
+    15000   100000
+    12000    85000
+    20000    72999
+    40000    53000
+    30000    20000
+     4000        0
+     5000     6000
+     1000    21000
+";
+
+pub const REPORT_OUTPUT: &str = " 1    15000   100000    85000    15000        0        0 0 1
+ 2    12000    85000    73000    12000        0        0 0 1
+ 3    20000    73000    53000    20000        0        0 0 0
+ 4    40000    53000    13000    20000        0        0 0 1
+ 5    30000    13000    -2000    20000    15000    20000 1 1
+ 6     4000    -2000     6000    20000    12000    30000 1 1
+ 7     5000     6000    21000    19000    20000    14000 0 1
+ 8     1000    21000    40000     1000    20000        0 0 1
+";
+
+/// A table of document 000 in MWh: SP, LFE or HFE, start, end, SP0, SP4, left_over, allowed unavailability.
+type Table = [[Int; 8]; 8];
+
+/// 000, table 6: 100 MW of DR, low.
+const TABLE_6: Table = [
+    [1, 15, 100, 85, 15, 0, 0, 0],
+    [2, 12, 85, 73, 12, 0, 0, 0],
+    [3, 20, 73, 53, 20, 0, 0, 0],
+    [4, 40, 53, 13, 20, 0, 0, 0],
+    [5, 30, 13, -2, 20, 15, 20, 1],
+    [6, 4, -2, 6, 20, 12, 30, 1],
+    [7, 5, 6, 21, 19, 20, 14, 0],
+    [8, 1, 21, 40, 1, 20, 0, 0],
+];
+
+/// 000, table 8: 40 MW of DC, high.
+const TABLE_8: Table = [
+    [1, 0, 10, 10, 0, 0, 0, 0],
+    [2, 1, 10, 9, 1, 0, 0, 0],
+    [3, 8, 9, 1, 2, 0, 0, 0],
+    [4, 2, 1, -1, 2, 0, 6, 1],
+    [5, 0, -1, -1, 2, 0, 6, 1],
+    [6, 0, -1, 0, 2, 1, 4, 1],
+    [7, 0, 0, 2, 2, 2, 2, 1],
+    [8, 0, 2, 4, 0, 2, 0, 0],
+];
+
+/// Paper 01's stock curves.
+pub fn regulation() -> Curve {
+    Curve(vec![(15, 0), (200, 1_000)])
+}
+
+pub fn containment() -> Curve {
+    Curve(vec![(15, 0), (200, 50), (500, 1_000)])
+}
+
+pub fn compare(runs: &mut Runs, tally: &mut Tally) {
+    report(tally);
+    terms(tally);
+    quantity(tally);
+    runs.add(table(&TABLE_6, Direction([0, 0, 100]), 1, tally), tally);
+    runs.add(table(&TABLE_8, Direction([40, 0, 0]), 2, tally), tally);
+    runs.add(energy(), tally);
+    runs.add(ledger(), tally);
+}
+
+fn report(tally: &mut Tally) {
+    let input = REPORT_INPUT.as_bytes();
+    assert_eq!(model::report(input, 488).as_deref(), Ok(REPORT_OUTPUT));
+    host::report(TOPIC, input, 488, tally);
+    host::report(TOPIC, input, 489, tally);
+    assert_eq!(model::report(input, 487), Err(14));
+    host::report(TOPIC, input, 487, tally);
+}
+
+/// "Import limit 48,000 kW: 40 MW DM each way fits; 47,999 is refusal 2."
+fn terms(tally: &mut Tally) {
+    let fits = Terms {
+        low: Direction([0, 40, 0]),
+        high: Direction([0, 40, 0]),
+        export_limit: 48_000,
+        import_limit: 48_000,
+    };
+    assert_eq!(host::terms(TOPIC, &fits, tally), 0);
+    let short = Terms {
+        import_limit: 47_999,
+        ..fits
+    };
+    assert_eq!(host::terms(TOPIC, &short, tally), -2);
+}
+
+/// 003, appendix 2, in kW; the last room by paper 01: "room 170 gives 100. 003 prints 80, against its rule".
+fn quantity(tally: &mut Tally) {
+    let low = [(0, 0), (10_000, 9_000), (50_000, 25_000), (100_000, 40_000)];
+    let high = [(0, 0), (30_000, 20_000), (100_000, 60_000)];
+    // Direction, MIL, SIL, SEL, MEL, OL; room and quantity, all in MW.
+    let examples = [
+        (1, [0, 0, 0, 100, 50], 50, 25),
+        (1, [0, 0, 0, 100, 70], 30, 17),
+        (1, [-100, -10, 10, 100, -50], 40, 21),
+        (1, [-100, 0, 0, 100, -50], 150, 55),
+        (2, [0, 0, 10, 100, 40], 30, 20),
+        (2, [-50, 0, 0, 50, 15], 65, 40),
+        (2, [-50, -10, 10, 50, -26], 24, 16),
+        (2, [-100, 0, 0, 100, 70], 170, 100),
+    ];
+    for (direction, levels, room, quantity) in examples {
+        let [mil, sil, sel, mel, ol] = levels.map(|mw: Int| mw * 1_000);
+        let levels = Levels {
+            mil,
+            sil,
+            sel,
+            mel,
+            ol,
+        };
+        let (found, points) = if direction == 1 {
+            (levels.headroom(), host::bytes_of(&low))
+        } else {
+            (levels.footroom(), host::bytes_of(&high))
+        };
+        assert_eq!(found, room * 1_000);
+        let contracted = host::quantity(TOPIC, direction, &levels, &points, 4_000_000, tally);
+        assert_eq!(contracted, quantity * 1_000);
+    }
+    // 003, appendix 1: headroom and footroom with SEL and SIL 0, then with others.
+    let rooms = [
+        ([-50, 0, 0, 50, -20], 70, 30),
+        ([-50, 0, 0, 50, 0], 50, 50),
+        ([-80, -30, 30, 70, 50], 20, 20),
+        ([-60, -30, 30, 70, -30], 0, 30),
+    ];
+    for ([mil, sil, sel, mel, ol], headroom, footroom) in rooms {
+        let levels = Levels {
+            mil,
+            sil,
+            sel,
+            mel,
+            ol,
+        };
+        let equal = host::bytes_of(&[(0, 0), (1, 1)]);
+        let low = host::quantity(TOPIC, 1, &levels, &equal, 4_000_000, tally);
+        let high = host::quantity(TOPIC, 2, &levels, &equal, 4_000_000, tally);
+        assert_eq!((low, high), (headroom, footroom));
+    }
+}
+
+/// The rows of a table in kWh by the monitor and by the report, once with reported energies that just pass and once with a
+/// kWh less, where a start is above 0.
+fn table(table: &Table, direction: Direction, number: Int, tally: &mut Tally) -> Script {
+    let mut script = Script::new(TOPIC);
+    for less in [0, 1] {
+        let (mut bounds, mut reported, mut rows) = ([0; 8], [0; 8], [[0; 9]; 8]);
+        for (i, row) in table.iter().enumerate() {
+            let [period, bound, start, end, sched, back, left, flag] = *row;
+            let [bound, start, end, sched, back, left] =
+                [bound, start, end, sched, back, left].map(|mwh| mwh * 1_000);
+            bounds[i] = bound;
+            reported[i] = (start - less).max(0);
+            let verdict = Int::from(less == 0 || start <= 0);
+            rows[i] = [period, bound, start, end, sched, back, left, flag, verdict];
+        }
+        script.monitor(&direction, &bounds, &reported);
+        script.printed_rows(&rows);
+
+        let [dc, dm, dr] = direction.0;
+        let mut input = format!("{number:9}{dc:9}{dm:9}{dr:9}\n");
+        for i in 0..8 {
+            input += &format!("{:9}{:9}\n", bounds[i], reported[i]);
+        }
+        host::report(TOPIC, input.as_bytes(), 488, tally);
+    }
+    script
+}
+
+/// "Regulation, 100 MW: 49,985 gives 0 kW; 49,984 gives 541; 49,800 gives 100,000." "All 3,600 at 49,984: 271 kWh."
+fn energy() -> Script {
+    assert_eq!(model::response(100, &regulation(), 15), 0);
+    assert_eq!(model::response(100, &regulation(), 16), 541);
+    assert_eq!(model::response(100, &regulation(), 200), 100_000);
+    let mut script = Script::new(TOPIC);
+    script.curves(&[containment(), regulation(), regulation()]);
+    let mut constant = |reading, line: &str| {
+        script.read(reading, 3_600);
+        script.energy(&Direction([0, 0, 100]), &Direction::default());
+        script.printed(line);
+    };
+    constant(49_985, "energy 0 0 0");
+    constant(49_984, "energy 0 271 0");
+    constant(49_800, "energy 0 50000 0");
+    constant(50_016, "energy 0 0 0");
+    script
+}
+
+/// "100 MW DR: REV 100,000, ER 20,000. 40 MW DC: 10,000 and 2,000." "100 MW DR low only, size and state 100,000: p = 0
+/// accepted, 1 and −1 refused."
+fn ledger() -> Script {
+    let (dr, dc) = (Direction([0, 0, 100]), Direction([40, 0, 0]));
+    assert_eq!((dr.rev(), dr.er()), (100_000, 20_000));
+    assert_eq!((dc.rev(), dc.er()), (10_000, 2_000));
+    let mut script = Script::new(TOPIC);
+    script.curves(&[containment(), regulation(), regulation()]);
+    let terms = Terms {
+        low: dr,
+        high: Direction::default(),
+        export_limit: 100_000,
+        import_limit: 40_000,
+    };
+    script.open(&terms, 100_000, 100_000);
+    script.printed("record 0 100000 100000 0 0 0 0 0");
+    for (p, number) in [(0, 0), (1, 8), (-1, 8)] {
+        script.check(p);
+        assert_eq!(script.record.check(p), number);
+    }
+    script
+}

@@ -1,0 +1,48 @@
+//! Counts of cases, and the end of the program at a difference.
+
+use std::collections::BTreeMap;
+use std::fs;
+
+#[derive(Default)]
+pub struct Tally {
+    counts: BTreeMap<(&'static str, &'static str), BTreeMap<i64, u64>>,
+}
+
+impl Tally {
+    /// A call of `topic` was compared, which gave `number`: a refusal, or 0.
+    pub fn count(&mut self, topic: &'static str, call: &'static str, number: i64) {
+        let numbers = self.counts.entry((topic, call)).or_default();
+        *numbers.entry(number).or_default() += 1;
+    }
+
+    pub fn total(&self) -> u64 {
+        self.counts.values().flat_map(|n| n.values()).sum()
+    }
+
+    /// A line for each topic and call: the cases, and how many gave which number.
+    pub fn print(&self) {
+        for ((topic, call), numbers) in &self.counts {
+            let all: u64 = numbers.values().sum();
+            let each: Vec<String> = numbers.iter().map(|(n, c)| format!("{n}: {c}")).collect();
+            println!("{topic:16} {call:10} {all:8}   {}", each.join(", "));
+        }
+    }
+}
+
+/// Prints the first difference and the input that shows it, and ends the program with status 1.
+pub fn stop(topic: &str, input: &[u8], expected: &str, found: &str) -> ! {
+    let path = "target/compare/difference.txt";
+    println!("compare: DIFFERENCE in {topic}");
+    match fs::write(path, input) {
+        Ok(()) => println!("the input, also in {path}:"),
+        Err(e) => println!("the input ({path}: {e}):"),
+    }
+    let shown = input.len().min(8_000);
+    print!("{}", String::from_utf8_lossy(&input[..shown]));
+    if shown < input.len() {
+        println!("... ({} bytes in all)", input.len());
+    }
+    println!("expected: {expected}");
+    println!("found:    {found}");
+    std::process::exit(1)
+}

@@ -1,0 +1,355 @@
+//! The program ledger_trace: texts for it with the lines that the model expects, and runs of it.
+
+use crate::model::{self, Curve, Direction, Entries, Int, Record, Terms};
+use crate::tally::{stop, Tally};
+use std::fs::{self, File};
+use std::process::{Command, Stdio};
+
+/// The bytes of input that ledger_trace reads.
+pub const GREATEST_INPUT: usize = 1_000_000;
+
+/// A line that ledger_trace has to print.
+struct Line {
+    text: String,
+    /// The bytes of the script's text up to and with the call that prints it.
+    fed: usize,
+    /// The call and its number, on a call's first line.
+    call: Option<(&'static str, i64)>,
+}
+
+/// A list of calls as text, beside what the model answers to each.
+pub struct Script {
+    topic: &'static str,
+    text: String,
+    lines: Vec<Line>,
+    curves: [Curve; 3],
+    pub record: Record,
+    readings: Vec<u16>,
+}
+
+fn join(numbers: &[Int]) -> String {
+    numbers.iter().map(|n| format!(" {n}")).collect()
+}
+
+impl Script {
+    /// Starts from no readings, no points and the blank record of a refused opening, so that the text means the same after
+    /// any other.
+    pub fn new(topic: &'static str) -> Script {
+        let mut script = Script {
+            topic,
+            text: String::new(),
+            lines: Vec::new(),
+            curves: Default::default(),
+            record: Record::default(),
+            readings: Vec::new(),
+        };
+        script.clear();
+        for service in 0..3 {
+            script.curve(service, &Curve::default());
+        }
+        script.open(&Terms::default(), 0, 0);
+        script.lines[0].call = None;
+        script
+    }
+
+    fn feed(&mut self, word: &str, numbers: &[Int]) {
+        self.text += word;
+        self.text += &join(numbers);
+        self.text += "\n";
+    }
+
+    fn expect(&mut self, call: &'static str, number: i64, numbers: &[Int]) {
+        let text = format!("{call} {number}{}", join(numbers));
+        self.push(text, Some((call, number)));
+    }
+
+    fn push(&mut self, text: String, call: Option<(&'static str, i64)>) {
+        let fed = self.text.len();
+        self.lines.push(Line { text, fed, call });
+    }
+
+    fn expect_record(&mut self) {
+        let r = &self.record;
+        let (low, high) = r.next_starts();
+        let numbers = [
+            r.closed,
+            r.state,
+            low,
+            high,
+            r.bought,
+            r.sold,
+            r.delivered,
+            r.taken,
+        ];
+        self.push(format!("record{}", join(&numbers)), None);
+    }
+
+    /// Asserts that the model's last line is the one printed in a paper.
+    pub fn printed(&self, line: &str) {
+        assert_eq!(self.lines.last().unwrap().text, line);
+    }
+
+    /// Asserts that the model's last eight lines are the rows printed in a paper.
+    pub fn printed_rows(&self, rows: &[[Int; 9]; 8]) {
+        for (line, row) in self.lines[self.lines.len() - 8..].iter().zip(rows) {
+            assert_eq!(line.text, format!("row{}", join(row)));
+        }
+    }
+
+    /// The services are counted from 0 here, from 1 in the text.
+    pub fn curve(&mut self, service: usize, curve: &Curve) {
+        let mut numbers = vec![service as Int + 1];
+        numbers.extend(curve.0.iter().flat_map(|&(d, h)| [d, h]));
+        self.feed("curve", &numbers);
+        self.curves[service] = curve.clone();
+    }
+
+    pub fn curves(&mut self, curves: &[Curve; 3]) {
+        for service in 0..3 {
+            self.curve(service, &curves[service]);
+        }
+    }
+
+    pub fn open(&mut self, terms: &Terms, size: Int, first: Int) {
+        let (l, h) = (terms.low.0, terms.high.0);
+        let (export, import) = (terms.export_limit, terms.import_limit);
+        self.feed(
+            "open",
+            &[
+                l[0], l[1], l[2], h[0], h[1], h[2], export, import, size, first,
+            ],
+        );
+        let (number, record) = Record::open(*terms, self.curves.clone(), size, first);
+        self.record = record;
+        self.expect("open", number, &[]);
+        self.expect_record();
+    }
+
+    pub fn read(&mut self, value: u16, count: usize) {
+        self.feed("read", &[value.into(), count as Int]);
+        self.readings.resize(self.readings.len() + count, value);
+    }
+
+    /// Each value as often as it comes in a row.
+    pub fn read_all(&mut self, readings: &[u16]) {
+        for run in readings.chunk_by(|a, b| a == b) {
+            self.read(run[0], run.len());
+        }
+    }
+
+    pub fn clear(&mut self) {
+        self.feed("clear", &[]);
+        self.readings.clear();
+    }
+
+    pub fn check(&mut self, p: Int) {
+        self.feed("check", &[p]);
+        let number = self.record.check(p);
+        self.expect("check", number, &[]);
+        self.expect_record();
+    }
+
+    pub fn propose(&mut self) {
+        self.feed("propose", &[]);
+        let (number, p) = self.record.propose();
+        self.expect("propose", number, &[p]);
+        self.expect_record();
+    }
+
+    pub fn close(&mut self, p: Int, delivered: Int, taken: Int) -> i64 {
+        self.feed("close", &[p, delivered, taken]);
+        let number = self.record.close(p, &self.readings, delivered, taken);
+        self.readings.clear();
+        self.expect("close", number, &[]);
+        self.expect_record();
+        number
+    }
+
+    /// Makes the record's numbers those of `wanted`; terms and curves stay.
+    pub fn make_up(&mut self, wanted: &Record) {
+        let (now, wanted) = (numbers(&self.record), numbers(wanted));
+        for ((k, from), (_, to)) in now.into_iter().zip(wanted) {
+            if from != to {
+                self.put(k, to);
+            }
+        }
+    }
+
+    pub fn put(&mut self, k: Int, value: Int) {
+        self.feed("put", &[k, value]);
+        *place(&mut self.record, k) = value;
+    }
+
+    pub fn energy(&mut self, low: &Direction, high: &Direction) {
+        let (l, h) = (low.0, high.0);
+        self.feed("energy", &[l[0], l[1], l[2], h[0], h[1], h[2]]);
+        let (number, l, h) = model::period_energy(low, high, &self.curves, &self.readings);
+        self.readings.clear();
+        self.expect("energy", number, &[l, h]);
+    }
+
+    pub fn block(&mut self) {
+        self.feed("block", &[]);
+        let (number, period, place) = model::block_check(&self.readings);
+        self.expect("block", number, &[period as Int, place as Int]);
+    }
+
+    pub fn part(&mut self, period: Int) {
+        self.feed("part", &[period]);
+        let part = model::part(&self.readings, period);
+        let ends = [part.first(), part.last()].map(|r| r.map_or(0, |&r| Int::from(r)));
+        let text = format!("part {}{}", part.len(), join(&ends));
+        let number = if part.is_empty() { 6 } else { 0 };
+        self.push(text, Some(("part", number)));
+    }
+
+    pub fn monitor(&mut self, direction: &Direction, bounds: &[Int; 8], reported: &[Int; 8]) {
+        let mut numbers = direction.0.to_vec();
+        numbers.extend(bounds);
+        numbers.extend(reported);
+        self.feed("monitor", &numbers);
+        match model::monitor(direction, bounds, reported) {
+            Err(number) => self.expect("monitor", number, &[]),
+            Ok(rows) => {
+                self.expect("monitor", 0, &[]);
+                for (i, (r, verdict)) in rows.iter().enumerate() {
+                    let row = [
+                        i as Int + 1,
+                        r.bound,
+                        r.start,
+                        r.end,
+                        r.sched,
+                        r.back,
+                        r.left,
+                        r.flag.into(),
+                        (*verdict).into(),
+                    ];
+                    self.push(format!("row{}", join(&row)), None);
+                }
+            }
+        }
+    }
+
+    /// Text that is not as the format says, after which nothing is read.
+    pub fn malformed(&mut self, text: &str) {
+        let line = self.text.matches('\n').count() + 1;
+        self.text += text;
+        self.push(format!("malformed {line}"), Some(("malformed", 0)));
+    }
+
+    /// Lines that print nothing, until the text has `length` bytes; one byte more makes it too long.
+    pub fn fill(&mut self, length: usize) {
+        while self.text.len() + 16 < length {
+            self.clear();
+        }
+        let digits = length - self.text.len() - "put 0 \n".len();
+        self.put(0, "1".repeat(digits).parse().unwrap());
+        if length > GREATEST_INPUT {
+            self.lines.clear();
+            self.push("malformed 0".to_string(), Some(("malformed", 0)));
+        }
+    }
+}
+
+/// The number of a record that `put` names with `k`.
+fn place(r: &mut Record, k: Int) -> &mut Int {
+    fn entry(low: &mut Entries, tens: Int, i: usize) -> &mut Int {
+        match tens {
+            0 => &mut low.bound[i],
+            1 => &mut low.start[i],
+            _ => &mut low.sched[i],
+        }
+    }
+    match k {
+        0 => &mut r.size,
+        1 => &mut r.first,
+        2 => &mut r.state,
+        3 => &mut r.closed,
+        4 => &mut r.bought,
+        5 => &mut r.sold,
+        6 => &mut r.delivered,
+        7 => &mut r.taken,
+        11..=38 => entry(&mut r.low, k / 10 - 1, (k % 10) as usize - 1),
+        _ => entry(&mut r.high, k / 10 - 4, (k % 10) as usize - 1),
+    }
+}
+
+/// What `put` can name: the eight numbers, and six entries of each period.
+pub fn places() -> impl Iterator<Item = Int> {
+    (0..8).chain((1..=6).flat_map(|tens| (1..=8).map(move |i| 10 * tens + i)))
+}
+
+/// A record's numbers with their names.
+pub fn numbers(record: &Record) -> Vec<(Int, Int)> {
+    let mut record = record.clone();
+    places().map(|k| (k, *place(&mut record, k))).collect()
+}
+
+/// The scripts that go into one run of ledger_trace, one after the other.
+pub struct Runs {
+    program: String,
+    scripts: Vec<Script>,
+    length: usize,
+}
+
+impl Runs {
+    pub fn new(program: String) -> Runs {
+        Runs {
+            program,
+            scripts: Vec::new(),
+            length: 0,
+        }
+    }
+
+    pub fn add(&mut self, script: Script, tally: &mut Tally) {
+        if self.length + script.text.len() > GREATEST_INPUT {
+            self.run(tally);
+        }
+        self.length += script.text.len();
+        self.scripts.push(script);
+    }
+
+    /// A script that has to have a run of its own.
+    pub fn alone(&mut self, script: Script, tally: &mut Tally) {
+        self.run(tally);
+        self.scripts.push(script);
+        self.run(tally);
+    }
+
+    /// Runs ledger_trace on what was added, and compares line by line.
+    pub fn run(&mut self, tally: &mut Tally) {
+        let scripts = std::mem::take(&mut self.scripts);
+        self.length = 0;
+        if scripts.is_empty() {
+            return;
+        }
+        let input: String = scripts.iter().map(|s| s.text.as_str()).collect();
+        let path = "target/compare/input.txt";
+        fs::write(path, &input).expect(path);
+        let output = Command::new(&self.program)
+            .stdin(Stdio::from(File::open(path).expect(path)))
+            .output()
+            .unwrap_or_else(|e| panic!("{}: {e}", self.program));
+        let printed = String::from_utf8_lossy(&output.stdout).into_owned();
+        let mut found = printed.lines();
+        for script in &scripts {
+            for line in &script.lines {
+                let found = found.next().unwrap_or("(no line)");
+                if found != line.text {
+                    let fed = &script.text[..line.fed];
+                    stop(script.topic, fed.as_bytes(), &line.text, found);
+                }
+                if let Some((call, number)) = line.call {
+                    tally.count(script.topic, call, number);
+                }
+            }
+        }
+        if let Some(line) = found.next() {
+            stop("end of output", input.as_bytes(), "(no line)", line);
+        }
+        if !output.status.success() || !printed.ends_with('\n') {
+            let status = format!("{}, {} bytes", output.status, printed.len());
+            stop("end of run", input.as_bytes(), "success", &status);
+        }
+    }
+}

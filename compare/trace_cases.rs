@@ -1,0 +1,922 @@
+//! Cases for ledger_trace: period energy, blocks and parts, the monitor, lists of ledger calls, made-up records.
+
+use crate::host_cases::{
+    any_direction, any_terms, good_bounds, good_direction, good_reported, rising,
+};
+use crate::model::{Curve, Direction, Entries, Int, Record, Terms};
+use crate::papers::{containment, regulation};
+use crate::random::Random;
+use crate::tally::Tally;
+use crate::trace::{numbers, places, Runs, Script, GREATEST_INPUT};
+
+const MAX: Int = u32::MAX as Int;
+const I64: [Int; 2] = [i64::MIN as Int, i64::MAX as Int];
+const PERIOD: usize = 3_600;
+const BLOCK: usize = 28_800;
+const BAD_READINGS: [u16; 6] = [46_999, 53_001, 0, 1, 40_000, u16::MAX];
+
+// Curves and readings
+
+fn good_curve(random: &mut Random) -> Curve {
+    match random.below(6) {
+        0 => return regulation(),
+        1 => return containment(),
+        _ => {}
+    }
+    let count = 2 + random.below(4);
+    let widest = random.pick(&[5, 60, 500, 3_000]);
+    let deviations = rising(random, count, widest, true);
+    let most = random.pick(&[0, 3, 1_000, 1_000, 1_000]);
+    let mut shares = rising(random, count, most, false);
+    shares[0] = 0;
+    Curve(deviations.into_iter().zip(shares).collect())
+}
+
+fn good_curves(random: &mut Random) -> [Curve; 3] {
+    [(); 3].map(|()| good_curve(random))
+}
+
+/// Each way in which a curve of `count` points breaks its rule, and each limit that it may just reach.
+fn edge_curves(random: &mut Random, count: usize) -> Vec<Curve> {
+    let whole: Vec<(Int, Int)> = (0..count as Int).map(|i| (10 + 100 * i, 200 * i)).collect();
+    let mut curves = vec![Curve(whole.clone())];
+    for i in 0..count {
+        let (before, after) = (whole[i.saturating_sub(1)], whole[(i + 1).min(count - 1)]);
+        let deviations = [
+            0,
+            before.0 - 1,
+            before.0,
+            before.0 + 1,
+            after.0 - 1,
+            after.0,
+            after.0 + 1,
+            2_999,
+            3_000,
+            3_001,
+            65_535,
+        ];
+        let shares = [
+            0,
+            1,
+            before.1 - 1,
+            before.1,
+            after.1,
+            after.1 + 1,
+            999,
+            1_000,
+            1_001,
+            65_535,
+        ];
+        for deviation in deviations {
+            let mut points = whole.clone();
+            points[i].0 = deviation;
+            curves.push(Curve(points));
+        }
+        for share in shares.into_iter().filter(|&s| s >= 0) {
+            let mut points = whole.clone();
+            points[i].1 = share;
+            curves.push(Curve(points));
+        }
+    }
+    for _ in 0..10 {
+        let points = (0..count).map(|_| (random.between(0, 3), random.between(0, 3)));
+        curves.push(Curve(points.collect()));
+    }
+    curves
+}
+
+fn broken_curve(random: &mut Random) -> Curve {
+    let count = random.below(6);
+    let curves = edge_curves(random, count.max(1));
+    let broken: Vec<&Curve> = curves.iter().filter(|c| !c.good()).collect();
+    match count {
+        0 => Curve::default(),
+        _ => broken[random.below(broken.len())].clone(),
+    }
+}
+
+/// Readings at the corners of the curves and beside them, both below and above 50,000.
+fn corners(curves: &[Curve; 3]) -> Vec<u16> {
+    let mut readings: Vec<Int> = vec![47_000, 47_001, 49_999, 50_000, 50_001, 52_999, 53_000];
+    for (deviation, _) in curves.iter().flat_map(|c| &c.0) {
+        for d in [deviation - 1, *deviation, deviation + 1] {
+            readings.extend([50_000 - d, 50_000 + d]);
+        }
+    }
+    readings.retain(|r| (47_000..=53_000).contains(r));
+    readings.into_iter().map(|r| r as u16).collect()
+}
+
+/// Where a period's readings lie.
+#[derive(Clone, Copy)]
+enum Weather {
+    Calm,
+    Low,
+    High,
+    Any,
+}
+
+/// `count` good readings: one value, few runs of corners, or a walk.
+fn good_readings(
+    random: &mut Random,
+    weather: Weather,
+    curves: &[Curve; 3],
+    count: usize,
+) -> Vec<u16> {
+    let (least, most) = match weather {
+        Weather::Calm => (49_900, 50_100),
+        Weather::Low => (47_000, 49_950),
+        Weather::High => (50_050, 53_000),
+        Weather::Any => (47_000, 53_000),
+    };
+    let mut corners = corners(curves);
+    corners.retain(|&r| (least..=most).contains(&Int::from(r)));
+    let value = |random: &mut Random| {
+        if corners.is_empty() || random.once_in(2) {
+            random.within(least, most) as u16
+        } else {
+            random.pick(&corners)
+        }
+    };
+    let mut readings = Vec::new();
+    match random.below(8) {
+        0 => readings.resize(count, value(random)),
+        1 => {
+            // A walk, a step for each reading.
+            let mut at = Int::from(value(random));
+            for _ in 0..count {
+                at = (at + random.between(-20, 20)).clamp(least, most);
+                readings.push(at as u16);
+            }
+        }
+        _ => {
+            while readings.len() < count {
+                let run = 1 + random.below(random_run(count));
+                let length = (readings.len() + run).min(count);
+                readings.resize(length, value(random));
+            }
+        }
+    }
+    readings
+}
+
+fn random_run(count: usize) -> usize {
+    count / 8
+}
+
+/// Readings that refusal 6 stops: another count, or a bad one at either end or between.
+fn bad_readings(random: &mut Random, count: usize) -> Vec<u16> {
+    let mut readings = vec![50_000; count];
+    if random.once_in(3) {
+        readings.resize(random.pick(&[0, 1, count - 1, count + 1]), 50_000);
+    } else {
+        let at = random.within(0, count as Int - 1) as usize;
+        readings[at] = random.pick(&BAD_READINGS);
+    }
+    readings
+}
+
+// Period energy
+
+/// A few hundred scripts, each once: curves broken in each way, readings at each corner, each reading by itself.
+pub fn energy_edges(random: &mut Random, runs: &mut Runs, tally: &mut Tally) {
+    const TOPIC: &str = "energy, edges";
+    let (none, full) = (Direction::default(), Direction([0, 0, 1_000]));
+    for count in 1..=5 {
+        let mut script = Script::new(TOPIC);
+        script.curves(&[regulation(), regulation(), regulation()]);
+        for curve in edge_curves(random, count) {
+            let service = random.below(3);
+            script.curve(service, &curve);
+            script.read(49_900, 1_800);
+            script.read(50_120, 1_800);
+            script.energy(&full, &Direction([300, 300, 300]));
+            script.curve(service, &regulation());
+        }
+        runs.add(script, tally);
+    }
+    // A period's count, and a reading's range at either end of the period.
+    let mut script = Script::new(TOPIC);
+    script.curves(&[containment(), regulation(), regulation()]);
+    for count in [0, 1, PERIOD - 1, PERIOD, PERIOD + 1, BLOCK, BLOCK + 1] {
+        script.read(49_500, count);
+        script.energy(&full, &none);
+    }
+    for value in [0, 46_999, 47_000, 47_001, 52_999, 53_000, 53_001, u16::MAX] {
+        for before in [0, 1, 1_800, PERIOD - 2, PERIOD - 1] {
+            script.read(50_000, before);
+            script.read(value, 1);
+            script.read(50_000, PERIOD - 1 - before);
+            script.energy(&full, &full);
+        }
+    }
+    runs.add(script, tally);
+    // Every reading at least once; the least energy that a single reading gives.
+    for curves in [
+        [containment(), regulation(), regulation()],
+        good_curves(random),
+    ] {
+        let mut script = Script::new(TOPIC);
+        script.curves(&curves);
+        let all: Vec<u16> = (47_000..=53_000).collect();
+        for part in [&all[..PERIOD], &all[all.len() - PERIOD..]] {
+            script.read_all(part);
+            script.energy(&Direction([333, 333, 334]), &Direction([1, 2, 3]));
+        }
+        for corner in corners(&curves) {
+            script.read(corner, 1);
+            script.read(50_000, PERIOD - 1);
+            script.energy(&Direction([7, 0, 0]), &Direction([0, 0, 7]));
+            script.read(corner, PERIOD);
+            script.energy(&Direction([1, 1, 1]), &Direction([1, 1, 998]));
+        }
+        runs.add(script, tally);
+    }
+}
+
+pub fn energy(random: &mut Random) -> Script {
+    let mut script = Script::new("energy");
+    let curves = good_curves(random);
+    script.curves(&curves);
+    for _ in 0..4 {
+        let (mut low, mut high) = (good_direction(random), good_direction(random));
+        if random.once_in(6) {
+            (low, high) = (any_direction(random), any_direction(random));
+        }
+        let broken = random.once_in(8);
+        let service = random.below(3);
+        if broken {
+            script.curve(service, &broken_curve(random));
+        }
+        let readings = if random.once_in(8) {
+            bad_readings(random, PERIOD)
+        } else {
+            good_readings(random, Weather::Any, &curves, PERIOD)
+        };
+        script.read_all(&readings);
+        script.energy(&low, &high);
+        if broken {
+            script.curve(service, &curves[service]);
+        }
+    }
+    script
+}
+
+/// Causes 1, 5 and 6, each with each of the others.
+pub fn energy_refusals(random: &mut Random) -> Script {
+    let mut script = Script::new("energy, causes");
+    for causes in 0..8 {
+        let curves = good_curves(random);
+        script.curves(&curves);
+        let mut directions = [good_direction(random), good_direction(random)];
+        if causes & 1 != 0 {
+            directions[random.below(2)].0[random.below(3)] =
+                random.pick(&[1_001, MAX, 0x8000_0000]);
+        }
+        if causes & 2 != 0 {
+            script.curve(random.below(3), &broken_curve(random));
+        }
+        if causes & 4 != 0 {
+            script.read_all(&bad_readings(random, PERIOD));
+        } else {
+            script.read(random.pick(&corners(&curves)), PERIOD);
+        }
+        script.energy(&directions[0], &directions[1]);
+    }
+    script
+}
+
+// Blocks
+
+/// Every period's part, and periods outside 1 to 8.
+fn parts(script: &mut Script) {
+    for period in (0..=9).chain([257, 65_537, MAX - 1, MAX]) {
+        script.part(period);
+    }
+}
+
+/// A bad reading at the ends of each period, and each count beside 28,800.
+pub fn block_edges(runs: &mut Runs, tally: &mut Tally) {
+    const TOPIC: &str = "block, edges";
+    for count in [0, 1, PERIOD, BLOCK - 1, BLOCK, BLOCK + 1] {
+        let mut script = Script::new(TOPIC);
+        script.read(50_000, count);
+        script.block();
+        parts(&mut script);
+        runs.add(script, tally);
+    }
+    for value in [46_999, 47_000, 53_000, 53_001] {
+        for period in 0..8 {
+            for place in [0, 1, PERIOD - 2, PERIOD - 1] {
+                let mut script = Script::new(TOPIC);
+                let before = period * PERIOD + place;
+                script.read(50_000, before);
+                script.read(value, 1);
+                script.read(50_000, BLOCK - 1 - before);
+                script.block();
+                script.part(period as Int + 1);
+                runs.add(script, tally);
+            }
+        }
+    }
+}
+
+pub fn block(random: &mut Random) -> Script {
+    let mut script = Script::new("block");
+    let curves = good_curves(random);
+    let mut readings = Vec::new();
+    for _ in 0..8 {
+        let mut period = good_readings(random, Weather::Any, &curves, PERIOD);
+        if period.chunk_by(|a, b| a == b).count() > 400 {
+            period = vec![random.between(47_000, 53_000) as u16; PERIOD];
+        }
+        readings.extend(period);
+    }
+    for _ in 0..random.below(4) {
+        let at = random.within(0, BLOCK as Int - 1) as usize;
+        readings[at] = random.pick(&BAD_READINGS);
+    }
+    if random.once_in(8) {
+        readings.resize(random.pick(&[BLOCK - 1, BLOCK + 1]), 50_000);
+    }
+    script.read_all(&readings);
+    script.block();
+    parts(&mut script);
+    script
+}
+
+// Monitor
+
+pub fn monitor(random: &mut Random) -> Script {
+    let mut script = Script::new("monitor");
+    for _ in 0..50 {
+        let mut direction = good_direction(random);
+        let mut bounds = good_bounds(random, &direction);
+        let mut reported = good_reported(random, &direction, &bounds);
+        for _ in 0..random.below(4) {
+            let i = random.below(8);
+            match random.below(3) {
+                0 => direction = any_direction(random),
+                1 => {
+                    bounds[i] = random
+                        .pick(&[0, direction.greatest_bound() + 1, MAX])
+                        .min(MAX)
+                }
+                _ => reported[i] = random.pick(&[9_999_999, 10_000_000, 10_000_001, MAX]),
+            }
+        }
+        script.monitor(&direction, &bounds, &reported);
+    }
+    script
+}
+
+// Ledger
+
+/// Terms of at least one MW that nothing refuses, with limits just met or not.
+fn good_terms(random: &mut Random) -> Terms {
+    let mut terms = Terms {
+        low: good_direction(random),
+        high: good_direction(random),
+        ..Terms::default()
+    };
+    match random.below(4) {
+        0 => terms.low = Direction::default(),
+        1 => terms.high = Direction::default(),
+        _ => {}
+    }
+    terms.export_limit = random.within(terms.export_need(), 2_000_000);
+    terms.import_limit = random.within(terms.import_need(), 2_000_000);
+    terms
+}
+
+/// A size and a first state that nothing refuses.
+fn good_size(random: &mut Random, terms: &Terms) -> (Int, Int) {
+    let least = terms.low.rev() + terms.high.rev();
+    let size = match random.below(3) {
+        0 => least + random.between(0, 10),
+        1 => least + random.between(0, least),
+        _ => random.within(least, 10_000_000),
+    };
+    let first = random.within(terms.low.rev(), size - terms.high.rev());
+    (size, first)
+}
+
+/// The causes of opening, each with each of the others.
+pub fn opening_causes(random: &mut Random) -> Script {
+    let mut script = Script::new("opening, causes");
+    for causes in 0..32 {
+        let mut terms = good_terms(random);
+        let (mut size, mut first) = good_size(random, &terms);
+        let curves = good_curves(random);
+        script.curves(&curves);
+        if causes & 1 != 0 {
+            if random.once_in(3) {
+                (terms.low, terms.high) = Default::default();
+            } else {
+                let direction = random.pick(&[0, 1]);
+                let mw = random.pick(&[1_001, MAX, 0x8000_0000]);
+                let side = [&mut terms.low, &mut terms.high];
+                for (i, d) in side.into_iter().enumerate() {
+                    if i == direction {
+                        d.0[random.below(3)] = mw;
+                    }
+                }
+            }
+        }
+        if causes & 2 != 0 {
+            match random.below(6) {
+                0 => terms.export_limit = random.pick(&[-1, 2_000_001, I64[0], I64[1]]),
+                1 => terms.import_limit = random.pick(&[-1, 2_000_001, I64[0], I64[1]]),
+                2 | 3 => terms.export_limit = terms.export_need() - 1,
+                _ => terms.import_limit = terms.import_need() - 1,
+            }
+        }
+        if causes & 4 != 0 {
+            script.curve(random.below(3), &broken_curve(random));
+        }
+        if causes & 8 != 0 {
+            size = random.pick(&[
+                0,
+                (terms.low.rev() + terms.high.rev() - 1).clamp(0, MAX),
+                10_000_001,
+                MAX,
+            ]);
+        }
+        if causes & 16 != 0 {
+            first = random.pick(&[
+                0,
+                (terms.low.rev() - 1).clamp(0, MAX),
+                (size - terms.high.rev() + 1).clamp(0, MAX),
+                MAX,
+            ]);
+        }
+        script.open(&terms, size, first);
+        script.check(0);
+        script.propose();
+    }
+    script
+}
+
+/// Opening at and beside each limit.
+pub fn opening(random: &mut Random) -> Script {
+    let mut script = Script::new("opening");
+    script.curves(&[containment(), regulation(), regulation()]);
+    for _ in 0..20 {
+        let mut terms = good_terms(random);
+        if random.once_in(3) {
+            terms = any_terms(random);
+        }
+        let least = terms.low.rev() + terms.high.rev();
+        let size = random.near(&[least, least + 1, 10_000_000]).clamp(0, MAX);
+        let ends = [terms.low.rev(), size - terms.high.rev()];
+        let first = random.near(&ends).clamp(0, MAX);
+        script.open(&terms, size, first);
+        script.propose();
+        script.check(random.between(-1, 1));
+    }
+    script
+}
+
+/// A purchase at, beside or far from what is accepted.
+fn any_purchase(random: &mut Random, record: &Record) -> Int {
+    if record.closed > 8 {
+        return 0;
+    }
+    let (floor, ceiling) = record.floor_and_ceiling();
+    let (down, up) = (floor - record.state, ceiling - record.state);
+    match random.below(12) {
+        0..=3 => random.near(&[down, up]),
+        4 => random.near(&[-record.state, record.size - record.state]),
+        5 => random.pick(&[0, 1, -1]),
+        6 => random.near(&[-10_000_000, 10_000_000]),
+        7 => random.pick(&I64),
+        8 => random.pick(&[I64[1] - record.state, I64[1] - record.state + 1, I64[0] + 1]),
+        9 => random.pick(&[-(1 << 32), 1 << 32]),
+        _ => random.between(down.min(up) - 5, down.max(up) + 5),
+    }
+}
+
+/// A purchase that is accepted.
+fn good_purchase(random: &mut Random, record: &Record) -> Int {
+    let (floor, ceiling) = record.floor_and_ceiling();
+    match random.below(3) {
+        0 => record.propose().1,
+        _ => random.within(floor, ceiling) - record.state,
+    }
+}
+
+/// A purchase at floor − 1, floor, ceiling, ceiling + 1, and what is proposed.
+fn purchases(script: &mut Script) {
+    let (floor, ceiling) = script.record.floor_and_ceiling();
+    for wanted in [floor - 1, floor, ceiling, ceiling + 1] {
+        script.check(wanted - script.record.state);
+    }
+    script.propose();
+    let (_, p) = script.record.propose();
+    for beside in [p - 1, p, p + 1] {
+        script.check(beside);
+    }
+}
+
+/// Closings that are refused, with causes 8, 6 and 9 in every company.
+fn refused_closing(random: &mut Random, script: &mut Script, readings: &[u16]) {
+    let record = script.record.clone();
+    let causes = 1 + random.below(7);
+    let (floor, ceiling) = record.floor_and_ceiling();
+    let p = if causes & 1 != 0 {
+        random.pick(&[floor - 1, ceiling + 1, I64[1], I64[0] + record.state]) - record.state
+    } else {
+        good_purchase(random, &record)
+    };
+    let (low, high) = record.bounds(readings);
+    if causes & 2 != 0 {
+        script.read_all(&bad_readings(random, PERIOD));
+    } else {
+        script.read_all(readings);
+    }
+    let (mut delivered, mut taken) = (random.within(0, low), random.within(0, high));
+    if causes & 4 != 0 {
+        match random.below(5) {
+            0 => delivered = random.pick(&[-1, I64[0]]),
+            1 => delivered = random.pick(&[low + 1, I64[1]]),
+            2 => taken = random.pick(&[-1, I64[0]]),
+            3 => taken = random.pick(&[high + 1, I64[1]]),
+            _ => (delivered, taken) = (low + 1, high + 1),
+        }
+    }
+    script.close(p.clamp(I64[0], I64[1]), delivered, taken);
+}
+
+/// A closing with delivered and taken in their bounds; where the new state would be outside 0..size it is refused, and one
+/// with nothing delivered or taken follows.
+fn closing(random: &mut Random, script: &mut Script, readings: &[u16]) {
+    let (low, high) = script.record.bounds(readings);
+    let p = good_purchase(random, &script.record);
+    script.read_all(readings);
+    let (mut delivered, mut taken) = (random.within(0, low), random.within(0, high));
+    // Often as far to one side as it goes, or just to either end of 0..size or past it.
+    let with_purchase = script.record.state + p;
+    match random.below(6) {
+        0 => (delivered, taken) = (low, 0),
+        1 => (delivered, taken) = (0, high),
+        2 => {
+            taken = 0;
+            delivered = (with_purchase + random.between(0, 1)).min(low);
+        }
+        3 => {
+            delivered = 0;
+            taken = (script.record.size - with_purchase + random.between(0, 1)).min(high);
+        }
+        _ => {}
+    }
+    if script.close(p, delivered, taken) != 0 {
+        script.read_all(readings);
+        assert_eq!(script.close(p, 0, 0), 0);
+    }
+}
+
+/// A whole list: opening, eight closings with other calls in between, the ninth.
+pub fn list(random: &mut Random) -> Script {
+    let mut script = Script::new("ledger list");
+    let curves = good_curves(random);
+    script.curves(&curves);
+    let terms = good_terms(random);
+    let (size, first) = good_size(random, &terms);
+    script.open(&terms, size, first);
+    if random.once_in(3) {
+        // The record keeps the curves of its opening.
+        script.curve(random.below(3), &good_curve(random));
+    }
+    let list_weather = [Weather::Calm, Weather::Low, Weather::High, Weather::Any];
+    let weather = random.pick(&list_weather);
+    while script.record.closed < 8 {
+        let weather = if random.once_in(4) {
+            random.pick(&list_weather)
+        } else {
+            weather
+        };
+        let readings = good_readings(random, weather, &curves, PERIOD);
+        if random.once_in(2) {
+            purchases(&mut script);
+        }
+        for _ in 0..random.below(3) {
+            let p = any_purchase(random, &script.record);
+            script.check(p.clamp(I64[0], I64[1]));
+        }
+        for _ in 0..random.below(3) {
+            refused_closing(random, &mut script, &readings);
+        }
+        closing(random, &mut script, &readings);
+    }
+    after_the_eighth(random, &mut script);
+    script
+}
+
+/// "With n = 8 every call gives 10."
+fn after_the_eighth(random: &mut Random, script: &mut Script) {
+    script.propose();
+    let p = any_purchase(random, &script.record);
+    script.check(p.clamp(I64[0], I64[1]));
+    script.read(50_000, PERIOD);
+    script.close(0, 0, 0);
+    script.close(I64[1], -1, I64[1]);
+}
+
+// Made-up records
+
+/// A record that keeps the rule with any bounds, not only those of readings.
+fn good_record(random: &mut Random, opened: &Record) -> Record {
+    let mut r = opened.clone();
+    r.closed = random.within(0, 8);
+    if r.closed == 0 {
+        return r;
+    }
+    let closed = r.closed as usize;
+    let low_bounds = good_bounds(random, &r.terms.low);
+    let high_bounds = good_bounds(random, &r.terms.high);
+    r.low = Entries::of(&r.terms.low, &low_bounds[..closed]);
+    r.high = Entries::of(&r.terms.high, &high_bounds[..closed]);
+    let (low, high) = r.next_starts();
+    r.state = random.within(low.max(0), r.size - high.max(0));
+    r.delivered = random.within(0, r.low.bound.iter().sum());
+    r.taken = random.within(0, r.high.bound.iter().sum());
+    fit_purchases(random, &mut r);
+    r
+}
+
+/// Bought and sold that fit the record's state: the least, the most, or between; where there are none, nothing is delivered
+/// and taken.
+fn fit_purchases(random: &mut Random, r: &mut Record) {
+    let most = 10_000_000 * r.closed;
+    let mut net = r.state - r.first + r.delivered - r.taken;
+    if net.abs() > most {
+        (r.delivered, r.taken) = (0, 0);
+        net = r.state - r.first;
+    }
+    let common = random.within(0, most - net.abs());
+    r.bought = net.max(0) + common;
+    r.sold = (-net).max(0) + common;
+}
+
+/// A record with one clause of the rule broken, or just kept, the others as they can be.
+fn one_clause(random: &mut Random, good: &Record) -> Record {
+    let mut r = good.clone();
+    let closed = r.closed.min(8) as usize;
+    let most = 10_000_000 * r.closed;
+    let beyond = random.between(0, 1);
+    let (low_next, high_next) = r.next_starts();
+    match random.below(14) {
+        0 => {
+            let more = most + beyond - r.bought.max(r.sold);
+            r.bought += more;
+            r.sold += more;
+        }
+        1 => {
+            let more = r.low.bound.iter().sum::<Int>() + beyond - r.delivered;
+            r.delivered += more;
+            r.bought += more;
+        }
+        2 => {
+            let more = r.high.bound.iter().sum::<Int>() + beyond - r.taken;
+            r.taken += more;
+            r.sold += more;
+        }
+        3 => {
+            // The state just passes low, or not.
+            let less = r.state - (low_next - beyond).max(0);
+            r.state -= less;
+            r.sold += less;
+        }
+        4 => {
+            // The state just passes high, or not; at most a kWh past full.
+            let more = (r.size - high_next).min(r.size) + beyond - r.state;
+            r.state += more;
+            r.bought += more;
+        }
+        5 if closed > 0 => {
+            let mut bounds = r.low.bound;
+            bounds[random.below(closed)] = r.terms.low.greatest_bound() + beyond;
+            r.low = Entries::of(&r.terms.low, &bounds[..closed]);
+        }
+        6 if closed > 0 => {
+            let mut bounds = r.high.bound;
+            bounds[random.below(closed)] = r.terms.high.greatest_bound() + beyond;
+            r.high = Entries::of(&r.terms.high, &bounds[..closed]);
+        }
+        7 => {
+            // The size just at its limit, or not.
+            r.size = 10_000_000 + beyond;
+        }
+        8 => {
+            let less = r.first - (r.terms.low.rev() - beyond);
+            r.first -= less;
+            r.bought += less;
+        }
+        9 => {
+            let more = r.size - r.terms.high.rev() + beyond - r.first;
+            r.first += more;
+            r.sold += more;
+        }
+        10 => r.closed = random.pick(&[closed as Int + 1, 9, 10, 255, 256, 264, MAX]),
+        11 => r.closed = (r.closed - 1).max(0),
+        12 => {
+            // Entries of a period that is not closed, with the requirement's own numbers.
+            let bounds = [0; 8];
+            r.low = Entries::of(&r.terms.low, &bounds);
+        }
+        _ => {
+            r.size = (r.terms.low.rev() + r.terms.high.rev() - beyond).max(0);
+        }
+    }
+    r
+}
+
+/// True where `put` can make the record: every number fits.
+fn can_be_put(record: &Record) -> bool {
+    numbers(record).into_iter().all(|(k, n)| match k / 10 {
+        2 | 5 => true,
+        _ => (0..=MAX).contains(&n),
+    })
+}
+
+/// Each number of a good record one more, one less and far off, then the number as it was; then whole records that break
+/// one clause.
+pub fn made_up(random: &mut Random) -> Script {
+    let mut script = Script::new("made-up record");
+    let curves = good_curves(random);
+    script.curves(&curves);
+    let terms = good_terms(random);
+    let (size, first) = good_size(random, &terms);
+    script.open(&terms, size, first);
+    let opened = script.record.clone();
+    let good = good_record(random, &opened);
+    assert!(good.good());
+    script.make_up(&good);
+    if good.closed < 8 {
+        purchases(&mut script);
+    }
+    let (_, p) = script.record.propose();
+    for k in places() {
+        let now = numbers(&script.record)
+            .into_iter()
+            .find(|n| n.0 == k)
+            .unwrap()
+            .1;
+        let far = match k / 10 {
+            2 | 5 => random.pick(&[I64[0], I64[1], -now]),
+            3 | 6 => random.pick(&[I64[1], MAX + 1, now + (1 << 32)]),
+            _ => random.pick(&[0, MAX, MAX - 1]),
+        };
+        let signed = matches!(k / 10, 2 | 5);
+        for value in [now - 1, now + 1, far] {
+            if value >= 0 || signed {
+                script.put(k, value);
+                script.check(p);
+            }
+        }
+        script.put(k, now);
+    }
+    script.check(p);
+    for _ in 0..20 {
+        let wanted = one_clause(random, &good);
+        if can_be_put(&wanted) {
+            script.make_up(&wanted);
+            script.propose();
+            let p = any_purchase(random, &script.record);
+            script.check(p.clamp(I64[0], I64[1]));
+            script.make_up(&good);
+        }
+    }
+    if good.closed < 8 {
+        let readings = good_readings(random, Weather::Any, &curves, PERIOD);
+        refused_closing(random, &mut script, &readings);
+        closing(random, &mut script, &readings);
+        script.propose();
+    }
+    script
+}
+
+/// Closings on a record that breaks the rule: 10 before all else.
+pub fn broken_closings(random: &mut Random) -> Script {
+    let mut script = Script::new("made-up record");
+    let curves = good_curves(random);
+    script.curves(&curves);
+    let terms = good_terms(random);
+    let (size, first) = good_size(random, &terms);
+    script.open(&terms, size, first);
+    let opened = script.record.clone();
+    for _ in 0..10 {
+        let good = good_record(random, &opened);
+        let wanted = one_clause(random, &good);
+        if !can_be_put(&wanted) {
+            continue;
+        }
+        script.make_up(&wanted);
+        if random.once_in(3) {
+            script.read_all(&bad_readings(random, PERIOD));
+        } else {
+            script.read(random.pick(&corners(&curves)), PERIOD);
+        }
+        let p = any_purchase(random, &script.record);
+        script.close(
+            p.clamp(I64[0], I64[1]),
+            random.between(-1, 1),
+            random.between(-1, 1),
+        );
+        script.propose();
+    }
+    script
+}
+
+/// The blank record that a refused opening returns, and what can be put into it.
+pub fn blank_record(random: &mut Random) -> Script {
+    let mut script = Script::new("blank record");
+    script.propose();
+    script.check(0);
+    script.read(50_000, PERIOD);
+    script.close(0, 0, 0);
+    for k in places() {
+        script.put(k, random.pick(&[0, 1, 8, 100_000]));
+        script.check(0);
+    }
+    script.propose();
+    script
+}
+
+// The format
+
+/// Texts that are not as the format says, and the longest text.
+pub fn malformed(runs: &mut Runs, tally: &mut Tally) {
+    let texts = [
+        "opened 1\n",
+        "Check 1\n",
+        "check\n",
+        "check \n",
+        "check 1 2\n",
+        "check  1\n",
+        " check 1\n",
+        "check 1 \n",
+        "check 1x\n",
+        "check -\n",
+        "check +1\n",
+        "check 1-\n",
+        "check --1\n",
+        "check 9223372036854775808\n",
+        "check -9223372036854775809\n",
+        "check 99999999999999999999\n",
+        "check 18446744073709551617\n",
+        "propose 1\n",
+        "clear 0\n",
+        "block 0\n",
+        "close 0 0\n",
+        "close 0 0 0 0\n",
+        "curve\n",
+        "curve 0\n",
+        "curve 4\n",
+        "curve 1 0\n",
+        "curve 1 0 0 1 1 2 2 3 3 4 4 5 5\n",
+        "curve 1 65536 0\n",
+        "curve 1 -1 0\n",
+        "open 1 0 0 0 0 0 0 0 0\n",
+        "open 1 0 0 0 0 0 0 0 0 0 0\n",
+        "open 4294967296 0 0 0 0 0 0 0 0 0\n",
+        "open -1 0 0 0 0 0 0 0 0 0\n",
+        "open 0 0 0 0 0 0 0 0 4294967296 0\n",
+        "open 0 0 0 0 0 0 0 0 0 -1\n",
+        "read 65536 1\n",
+        "read -1 1\n",
+        "read 50000\n",
+        "read 50000 -1\n",
+        "read 50000 28802\n",
+        "put 0 4294967296\n",
+        "put 0 -1\n",
+        "put 8 0\n",
+        "put 9 0\n",
+        "put 10 0\n",
+        "put 19 0\n",
+        "put 40 0\n",
+        "put 69 0\n",
+        "put 70 0\n",
+        "put -1 0\n",
+        "put 31 -1\n",
+        "put 61 9223372036854775808\n",
+        "part\n",
+        "part -1\n",
+        "part 4294967296\n",
+        "energy 1 2 3 4 5\n",
+        "energy 1 2 3 4 5 4294967296\n",
+        "monitor 1 2 3 1 1 1 1 1 1 1 1 1 1 1 1 1 1 1\n",
+        "monitor 1 2 3 1 1 1 1 1 1 1 1 1 1 1 1 1 1 1 4294967296\n",
+    ];
+    for text in texts {
+        let mut script = Script::new("format");
+        script.check(-1);
+        script.malformed(&format!("{text}check 0\n"));
+        runs.alone(script, tally);
+    }
+    for length in [GREATEST_INPUT - 1, GREATEST_INPUT, GREATEST_INPUT + 1] {
+        let mut script = Script::new("format");
+        script.fill(length);
+        runs.alone(script, tally);
+    }
+}
