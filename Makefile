@@ -3,8 +3,8 @@
 
 report:
 	@mkdir -p target
-	@rt check monitor_example >target/report.log 2>&1 || { cat target/report.log; exit 1; }
-	@target/bin/monitor_example
+	@rt check soereport >target/report.log 2>&1 || { cat target/report.log; exit 1; }
+	@target/bin/soereport < crates/soereport/stdin
 
 test:
 	@bash .ci/run

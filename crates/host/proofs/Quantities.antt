@@ -5,7 +5,7 @@ use mathlib.Core.List.{[], _∷_}
 use Prim.Native.Nat.{ℕ, _≤_, min}
 use native.Mathlib.Omega.{arith}
 use lib.Dec.{leb}
-use Rattle.common.specs.Answer.{Answer, given, cause}
+use Rattle.common.specs.Answer.{given, cause}
 use Rattle.common.proofs.Answers.{given-clear, clear-given}
 use Rattle.capability.specs.declared.Limits.{Limits}
 use Rattle.capability.specs.declared.Points.{Points}

@@ -1,9 +1,9 @@
 -- The record that the closings carried out give: it keeps the record rule, each call answers on it as the list says, and a closing
 -- that is carried out gives the record of the list with it. Assumes nothing.
-use mathlib.Core.Path.{_≡_, refl, sym, ap, _∙_}
-use mathlib.Core.Bool.{Bool, true, false, not, or-false}
-use mathlib.Core.List.{List, [], _∷_, _++_, map, map-append}
-use Prim.Native.Nat.{ℕ, zero, suc, _+_, _*_, _≤_, _<_}
+use mathlib.Core.Path.{_≡_, sym, ap}
+use mathlib.Core.Bool.{true, or-false}
+use mathlib.Core.List.{List, [], _∷_, _++_, map-append}
+use Prim.Native.Nat.{ℕ, zero, suc, _+_, _*_, _≤_}
 use native.Mathlib.Omega.{arith}
 use borrow.Author.Tests.{le-leb}
 use lib.Dec.{eqb}
@@ -12,13 +12,13 @@ use lib.ListN.{length, getD, length-append}
 use Rattle.common.specs.Answer.{clear}
 use Rattle.common.specs.Lists.{sum}
 use Rattle.common.proofs.Lists.{sum-append}
-use Rattle.signed.specs.Sign.{above, below, eqZ}
+use Rattle.signed.specs.Sign.{above, below}
 use Rattle.signed.proofs.Whole.{whole, one-sided, less, same}
 use Rattle.signed.proofs.Whole as integers
 use Rattle.signed.proofs.Orders.{true-leZ, eqZ-refl}
 use Rattle.terms.specs.Terms.{Q}
 use Rattle.terms.specs.declared.Terms.{Terms}
-use Rattle.energy.specs.Period.{goodReadings, lowDeviation, highDeviation}
+use Rattle.energy.specs.Period.{lowDeviation, highDeviation}
 use Rattle.energy.specs.declared.curve.Curves.{Curves}
 use Rattle.energy.proofs.Laws.{bound-most}
 use Rattle.ledger_record.specs.Opening.{openingCauses}

@@ -10,7 +10,7 @@ use lib.Seq.{getD-at}
 use Rattle.common.specs.Periods.{ofPeriod}
 use Rattle.signed.specs.Sign.{above, below}
 use Rattle.signed.proofs.Whole.{sum, less}
-use Rattle.requirement.specs.Requirement.{start, back}
+use Rattle.requirement.specs.Requirement.{start}
 use Rattle.requirement.proofs.Need.{needed-is, needed-most}
 use Rattle.requirement.proofs.Laws.{back-recovery, start-local, back-local}
 use Rattle.ledger.specs.Calls.{Closing}

@@ -1,20 +1,19 @@
 -- A direction's entries after the closings carried out: they keep the record rule, and one more closing adds its own.
 -- Assumes nothing.
 use mathlib.Core.Path.{_≡_, refl, sym, ap, _∙_}
-use mathlib.Core.Bool.{Bool, true, false, cond, _&&_}
-use mathlib.Core.List.{List, [], _∷_, _++_, map, map-append}
+use mathlib.Core.Bool.{true, _&&_}
+use mathlib.Core.List.{List, [], _∷_, map, map-append}
 use Prim.Native.Nat.{ℕ, suc, _+_, _-_, _*_, _≤_, _<_}
 use native.Mathlib.Numerals.{add-one}
 use native.Mathlib.Omega.{arith}
 use native.Mathlib.Decide.{decLe}
 use borrow.Author.Tests.{le-leb, lt-leb, eq-eqb}
-use lib.Dec.{leb, eqb}
+use lib.Dec.{eqb}
 use lib.IntN.{ℤ, pos, _+ℤ_}
 use lib.ListN.{length, getD, set, length-append, length-map, List·getD-eq-default}
-use Rattle.common.specs.Lists.{every}
 use Rattle.common.specs.Periods.{periodsTo, ofPeriod}
 use Rattle.common.proofs.Periods.{map-next, map-local, length-periods, period-at, every-period}
-use Rattle.signed.specs.Sign.{eqZ, greater}
+use Rattle.signed.specs.Sign.{greater}
 use Rattle.signed.proofs.Orders.{eqZ-refl}
 use Rattle.terms.specs.Terms.{Q, REV, ER}
 use Rattle.terms.specs.declared.Quantities.{Quantities}

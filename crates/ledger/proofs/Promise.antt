@@ -6,11 +6,11 @@ use mathlib.Core.Bool.{Bool, true, false, not, cond, _&&_}
 use mathlib.Core.List.{List, [], _∷_, _++_, append-assoc, append-nil}
 use Prim.Native.Nat.{ℕ, _<_}
 use native.Mathlib.Omega.{arith}
-use borrow.Author.Tests.{eqb-true, eqb-false, eq-eqb, ne-eqb, not-true, not-false}
+use borrow.Author.Tests.{eqb-true, eqb-false, eq-eqb, ne-eqb, not-true}
 use lib.Dec.{eqb}
 use lib.IntN.{ℤ, pos}
 use lib.ListN.{length, drop, replicate}
-use Rattle.common.specs.Answer.{Answer, refused, given, isGiven, Cause, cause, checked, clear, orBlank}
+use Rattle.common.specs.Answer.{refused, given, isGiven, cause, checked, clear, orBlank}
 use Rattle.common.specs.Lists.{sum, every}
 use Rattle.common.specs.Periods.{periodsTo}
 use Rattle.common.proofs.Answers.{given-is, clear-given, given-clear, orBlank-is, first-given}
@@ -24,7 +24,7 @@ use Rattle.ledger_record.specs.declared.Record.{Record}
 use Rattle.ledger_record.proofs.Openings.{Fits, opening-fits}
 use Rattle.ledger.specs.Calls.{Closing, newState, unusable, checking, proposing, closingCauses, closing, recordClosed, settles, low, high}
 use Rattle.ledger.specs.Calls as calls
-use Rattle.ledger.specs.Promise.{Call, check, propose, close, after, run, Gives, History, done, carriedOut, extend, Battery, NoCause, Open, Promise, battery, stateAfter, entriesAfter, recordAfter, Demand3}
+use Rattle.ledger.specs.Promise.{Call, check, propose, close, after, run, Gives, History, done, carriedOut, Battery, NoCause, Open, Promise, battery, stateAfter, entriesAfter, recordAfter, Demand3}
 use Rattle.ledger.proofs.History.{Opened, Still, Passes, accepts, proposal, settled, first-passes, next-passes, no-cause, no-cause-accepts, no-cause-settled, proposal-nearest, safe, refused-exactly, refused-fails}
 use Rattle.ledger.proofs.Agreement.{Totals, no-totals, totals-next, rule-holds, usable-is, accepts-are, proposal-is, settles-are, closed-is}
 

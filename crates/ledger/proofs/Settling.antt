@@ -1,5 +1,5 @@
 -- The new state in natural numbers: what comes up less what goes down. Assumes nothing.
-use mathlib.Core.Path.{_≡_, sym}
+use mathlib.Core.Path.{_≡_}
 use mathlib.Core.Bool.{true, false, _&&_, and-false}
 use Prim.Native.Nat.{ℕ, _+_, _-_, _≤_, _<_}
 use native.Mathlib.Omega.{arith}
@@ -8,7 +8,7 @@ use lib.Signed.{leZ}
 use Rattle.common.proofs.Tests.{both-true}
 use Rattle.signed.specs.Sign.{above, below, within}
 use Rattle.signed.proofs.Whole.{whole, one-sided, sum, less}
-use Rattle.signed.proofs.Orders.{within-true, true-within, true-leZ, false-leZ}
+use Rattle.signed.proofs.Orders.{within-true, true-within, false-leZ}
 use Rattle.ledger.specs.Calls as calls
 use Rattle.ledger.specs.Calls.{moved}
 

@@ -15,6 +15,7 @@ use Rattle.common.specs.Periods.{ofPeriod}
 use Rattle.common.proofs.Lists.{some-not}
 use Rattle.common.proofs.Periods.{period-at}
 use Rattle.common.proofs.Tests.{neither}
+use Rattle.common.proofs.Answers.{none-holds}
 use Rattle.signed.specs.Sign.{above, below}
 use Rattle.signed.proofs.Whole.{less, one-sided}
 use Rattle.terms.specs.Terms.{Q, REV, ER, above1000}
@@ -26,7 +27,6 @@ use Rattle.report.specs.declared.Input.{Input}
 use Rattle.report.specs.Input.{inputOf}
 use Rattle.report.specs.Output.{bit}
 use Rattle.report.specs.Report.{reportCauses, written, reporting}
-use Rattle.report.proofs.Causes.{none-holds}
 use Rattle.report.proofs.RoundTrip.{Fits, Whole, printed-whole}
 
 -- ---- the table of any bounds of at most `most`
