@@ -1,4 +1,7 @@
 // Makes the calls that standard input names, one to a line, and prints each answer: a trace to compare with another program.
+ghost use mathlib.Core.Path.{_≡_};
+ghost use lib.ListN.{length};
+
 mod calls;
 mod make;
 mod readings;
@@ -115,17 +118,25 @@ fn take_lines(input: &[u8], space: &mut [u16]) {
             show::write_line(b"malformed", number);
             return;
         }
+        let next = end + 1;
         state = take_line(&input[at..end], state, space);
         if !state.good {
             show::write_line(b"malformed", number);
             return;
         }
-        at = end + 1;
+        at = next;
     }
 }
 
+// Room for the most bytes and one more.
+fn room() -> [u8; 1_000_001]
+    ensures { λ r. ⌜ 1000001 ≡ length r ⌝ }
+{
+    [0; 1_000_001]
+}
+
 fn main() {
-    let mut input = [0u8; 1_000_001];
+    let mut input = room();
     let n = io::read_full(STDIN_FILENO, &mut input);
     if 1_000_000 < n {
         show::write_line(b"malformed", 0);

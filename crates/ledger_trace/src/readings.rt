@@ -20,9 +20,10 @@ use ledger::CloseAnswer;
 fn fill(readings: &mut [u16], from: usize, end: usize, reading: u16) {
     let mut i = from;
     while i < end {
-        if i < readings.len() {
-            readings[i] = reading;
+        if readings.len() <= i {
+            return;
         }
+        readings[i] = reading;
         i += 1;
     }
 }
