@@ -41,16 +41,14 @@ fn show(number: i64, output: &[u8]) -> String {
 pub fn report(topic: &'static str, input: &[u8], room: usize, tally: &mut Tally) {
     assert!(room <= BEHIND);
     let before: Vec<u8> = (0..BEHIND).map(|i| (i * 7 + 1) as u8).collect();
-    let (mut expected, number) = (
-        before.clone(),
-        match model::report(input, room) {
-            Ok(_) => 0,
-            Err(number) => -number,
-        },
-    );
-    if let Ok(text) = model::report(input, room) {
-        expected[..text.len()].copy_from_slice(text.as_bytes());
-    }
+    let mut expected = before.clone();
+    let number = match model::report(input, room) {
+        Ok(text) => {
+            expected[..text.len()].copy_from_slice(text.as_bytes());
+            0
+        }
+        Err(number) => -number,
+    };
     let lent = input.to_vec();
     let mut output = before;
     // SAFETY: as include/soe.h asks: both pointers lead to as many bytes as their lengths say, and do not overlap.

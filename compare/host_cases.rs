@@ -241,7 +241,7 @@ pub fn good_bounds(random: &mut Random, direction: &Direction) -> [Int; 8] {
         2 => random.near(&[direction.er()]).clamp(0, most),
         3 => random.between(0, direction.er().min(most)),
         4 => random.within(0, most),
-        _ => random.pick(&[0, 0, 0, most / 2 + 1]),
+        _ => random.pick(&[0, 0, 0, most / 2]),
     })
 }
 

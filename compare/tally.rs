@@ -24,7 +24,7 @@ impl Tally {
         for ((topic, call), numbers) in &self.counts {
             let all: u64 = numbers.values().sum();
             let each: Vec<String> = numbers.iter().map(|(n, c)| format!("{n}: {c}")).collect();
-            println!("{topic:16} {call:10} {all:8}   {}", each.join(", "));
+            println!("{topic:16} {call:12} {all:8}   {}", each.join(", "));
         }
     }
 }

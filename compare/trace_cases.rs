@@ -151,17 +151,13 @@ fn good_readings(
         }
         _ => {
             while readings.len() < count {
-                let run = 1 + random.below(random_run(count));
+                let run = 1 + random.below(count / 8);
                 let length = (readings.len() + run).min(count);
                 readings.resize(length, value(random));
             }
         }
     }
     readings
-}
-
-fn random_run(count: usize) -> usize {
-    count / 8
 }
 
 /// Readings that refusal 6 stops: another count, or a bad one at either end or between.
@@ -413,14 +409,12 @@ pub fn opening_causes(random: &mut Random) -> Script {
             if random.once_in(3) {
                 (terms.low, terms.high) = Default::default();
             } else {
-                let direction = random.pick(&[0, 1]);
-                let mw = random.pick(&[1_001, MAX, 0x8000_0000]);
-                let side = [&mut terms.low, &mut terms.high];
-                for (i, d) in side.into_iter().enumerate() {
-                    if i == direction {
-                        d.0[random.below(3)] = mw;
-                    }
-                }
+                let beyond = if random.once_in(2) {
+                    &mut terms.low
+                } else {
+                    &mut terms.high
+                };
+                beyond.0[random.below(3)] = random.pick(&[1_001, MAX, 0x8000_0000]);
             }
         }
         if causes & 2 != 0 {
