@@ -107,7 +107,8 @@ fn take_line(line: &[u8], state: State, space: &mut [u16]) -> State {
     call(&line[..end], numbers, state, space)
 }
 
-fn take_lines(input: &[u8], space: &mut [u16]) {
+// The number of the first malformed line, after which none is read; 0 where none is.
+fn take_lines(input: &[u8], space: &mut [u16]) -> u64 {
     let mut state = state::first_state();
     let mut number: u64 = 0;
     let mut at: usize = 0;
@@ -115,17 +116,16 @@ fn take_lines(input: &[u8], space: &mut [u16]) {
         number += 1;
         let end = text::find(input, at, b'\n');
         if input.len() <= end {
-            show::write_line(b"malformed", number);
-            return;
+            return number;
         }
         let next = end + 1;
         state = take_line(&input[at..end], state, space);
         if !state.good {
-            show::write_line(b"malformed", number);
-            return;
+            return number;
         }
         at = next;
     }
+    0
 }
 
 // Room for the most bytes and one more.
@@ -143,5 +143,8 @@ fn main() {
         return;
     }
     let mut space = [0u16; 28_801];
-    take_lines(&input[..n], &mut space);
+    let number = take_lines(&input[..n], &mut space);
+    if 0 < number {
+        show::write_line(b"malformed", number);
+    }
 }

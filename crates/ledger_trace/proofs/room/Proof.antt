@@ -1,5 +1,4 @@
--- `ledger_trace::room` meets its contract. The law is stated of any length, so that no list of that length is computed.
--- Assumes nothing.
+-- `ledger_trace::room` meets its contract, by a law of any length: no list is computed. Assumes nothing.
 use Prim.Native.Nat.{ℕ}
 use mathlib.Core.Path.{_≡_, sym}
 use lib.ListN.{length, length-replicate, replicate}

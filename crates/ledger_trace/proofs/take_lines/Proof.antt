@@ -1,5 +1,6 @@
 -- `ledger_trace::take_lines` meets its contract. Assumes nothing.
 use Prim.Native.Nat.{_≤_, _-_}
+use native.Mathlib.Omega.{arith}
 use mathlib.Core.Path.{_≡_}
 use lib.ListN.{length}
 use borrow.Author.Needs.{needs}
@@ -7,10 +8,10 @@ use Rattle.ledger_trace.proofs.take_lines.Statement.{statement}
 use Rattle.ledger_trace.proofs.take_lines.Tie as tie
 
 abbrev Inv-loop : tie.InvT-loop
-Inv-loop input space₀ state₀ number₀ at₀ t8 t9 space state number at = (number ≤ at) × (length space ≡ length space₀)
+Inv-loop input space₀ state₀ number₀ at₀ space state number at = (number ≤ at) × (length space ≡ length space₀)
 
 abbrev μ-loop : tie.MeasureT-loop
-μ-loop input space₀ state₀ number₀ at₀ t8 t9 space state number at = length input - at
+μ-loop input space₀ state₀ number₀ at₀ space state number at = length input - at
 
 first-state-requires : tie.Need-first-state-requires Inv-loop μ-loop
 first-state-requires c κs = search needs
@@ -19,16 +20,10 @@ loop-holds : tie.Need-loop-holds Inv-loop μ-loop
 loop-holds c = search needs
 
 add-number : tie.Need-add-number Inv-loop μ-loop
-add-number c = search needs
+add-number c = omega arith
 
 find-requires : tie.Need-find-requires Inv-loop μ-loop
 find-requires c κs = search needs
-
-slice-aggregate-write-line : tie.Need-slice-aggregate-write-line Inv-loop μ-loop
-slice-aggregate-write-line c = search needs
-
-write-line-requires : tie.Need-write-line-requires Inv-loop μ-loop
-write-line-requires c κs = search needs
 
 same-length : tie.Need-same-length Inv-loop μ-loop
 same-length c = search needs
@@ -37,25 +32,19 @@ returns : tie.Need-returns Inv-loop μ-loop
 returns c = search needs
 
 add-next : tie.Need-add-next Inv-loop μ-loop
-add-next c = search needs
+add-next c = omega arith
 
 sub-take-line : tie.Need-sub-take-line Inv-loop μ-loop
-sub-take-line c = search needs
+sub-take-line c = omega arith
 
 part-take-line-start : tie.Need-part-take-line-start Inv-loop μ-loop
-part-take-line-start c = search needs
+part-take-line-start c = omega arith
 
 part-take-line-end : tie.Need-part-take-line-end Inv-loop μ-loop
-part-take-line-end c = search needs
+part-take-line-end c = omega arith
 
 take-line-requires : tie.Need-take-line-requires Inv-loop μ-loop
 take-line-requires c κs = search needs
-
-slice-aggregate-write-line-2 : tie.Need-slice-aggregate-write-line-2 Inv-loop μ-loop
-slice-aggregate-write-line-2 c = search needs
-
-write-line-requires-2 : tie.Need-write-line-requires-2 Inv-loop μ-loop
-write-line-requires-2 c κs = search needs
 
 same-length-2 : tie.Need-same-length-2 Inv-loop μ-loop
 same-length-2 c = search needs
@@ -64,7 +53,7 @@ returns-2 : tie.Need-returns-2 Inv-loop μ-loop
 returns-2 c = search needs
 
 loop-less : tie.Need-loop-less Inv-loop μ-loop
-loop-less c = search needs
+loop-less c = omega arith
 
 loop-again : tie.Need-loop-again Inv-loop μ-loop
 loop-again c = search needs
@@ -85,8 +74,6 @@ take-lines-spec =
     loop-holds
     add-number
     find-requires
-    slice-aggregate-write-line
-    write-line-requires
     same-length
     returns
     add-next
@@ -94,8 +81,6 @@ take-lines-spec =
     part-take-line-start
     part-take-line-end
     take-line-requires
-    slice-aggregate-write-line-2
-    write-line-requires-2
     same-length-2
     returns-2
     loop-less
