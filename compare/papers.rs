@@ -137,7 +137,8 @@ fn quantity(tally: &mut Tally) {
         let contracted = host::quantity(TOPIC, direction, &levels, &points, 4_000_000, tally);
         printed("quantity", quantity * 1_000, contracted);
     }
-    // 003, appendix 1: headroom and footroom with SEL and SIL 0, then with others.
+    // 003, appendix 1: the rooms that its text gives, at levels that lead to them (its figures are not in the text); SEL and
+    // SIL are 0 in the first two.
     let rooms = [
         ([-50, 0, 0, 50, -20], 70, 30),
         ([-50, 0, 0, 50, 0], 50, 50),
