@@ -33,8 +33,18 @@ extern "C" {
 /// The bytes behind the output, of which a call is lent the first `room`.
 pub const BEHIND: usize = 600;
 
-fn show(number: i64, output: &[u8]) -> String {
-    format!("{number}, output\n{}", String::from_utf8_lossy(output))
+/// A number and what a report did to its output.
+fn show(number: i64, before: &[u8], output: &[u8]) -> String {
+    if output == before {
+        return format!("{number}, the output as it was");
+    }
+    let past = if output[488..] == before[488..] {
+        "as they were"
+    } else {
+        "changed"
+    };
+    let table = String::from_utf8_lossy(&output[..488]);
+    format!("{number}, the bytes past 488 {past}, the output\n{table}")
 }
 
 /// Compares the number, the output with the bytes past 488, and that the input is as it was.
@@ -50,7 +60,7 @@ pub fn report(topic: &'static str, input: &[u8], room: usize, tally: &mut Tally)
         Err(number) => -number,
     };
     let lent = input.to_vec();
-    let mut output = before;
+    let mut output = before.clone();
     // SAFETY: as include/soe.h asks: both pointers lead to as many bytes as their lengths say, and do not overlap.
     let found = unsafe { soe_report(lent.as_ptr(), lent.len(), output.as_mut_ptr(), room) };
     if found != number || output != expected || lent != input {
@@ -59,8 +69,8 @@ pub fn report(topic: &'static str, input: &[u8], room: usize, tally: &mut Tally)
         stop(
             topic,
             &shown,
-            &show(number, &expected),
-            &show(found, &output),
+            &show(number, &before, &expected),
+            &show(found, &before, &output),
         );
     }
     tally.count(topic, "soe_report", -number);

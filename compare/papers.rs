@@ -1,8 +1,8 @@
-//! The examples of paper 01 and the tables of documents 000 and 003 as they are printed, asserted of the model and compared.
+//! The examples of paper 01 and the tables of documents 000 and 003 as they are printed, held to the model and compared.
 
 use crate::host;
 use crate::model::{self, Curve, Direction, Int, Levels, Terms};
-use crate::tally::Tally;
+use crate::tally::{printed, Tally};
 use crate::trace::{Runs, Script};
 
 const TOPIC: &str = "papers";
@@ -77,10 +77,14 @@ pub fn compare(runs: &mut Runs, tally: &mut Tally) {
 
 fn report(tally: &mut Tally) {
     let input = REPORT_INPUT.as_bytes();
-    assert_eq!(model::report(input, 488).as_deref(), Ok(REPORT_OUTPUT));
+    printed(
+        "report",
+        Ok(REPORT_OUTPUT),
+        model::report(input, 488).as_deref(),
+    );
     host::report(TOPIC, input, 488, tally);
     host::report(TOPIC, input, 489, tally);
-    assert_eq!(model::report(input, 487), Err(14));
+    printed("report, room 487", &Err(14), &model::report(input, 487));
     host::report(TOPIC, input, 487, tally);
 }
 
@@ -92,12 +96,12 @@ fn terms(tally: &mut Tally) {
         export_limit: 48_000,
         import_limit: 48_000,
     };
-    assert_eq!(host::terms(TOPIC, &fits, tally), 0);
+    printed("import limit 48,000", 0, host::terms(TOPIC, &fits, tally));
     let short = Terms {
         import_limit: 47_999,
         ..fits
     };
-    assert_eq!(host::terms(TOPIC, &short, tally), -2);
+    printed("import limit 47,999", -2, host::terms(TOPIC, &short, tally));
 }
 
 /// 003, appendix 2, in kW; the last room by paper 01: "room 170 gives 100. 003 prints 80, against its rule".
@@ -129,11 +133,12 @@ fn quantity(tally: &mut Tally) {
         } else {
             (levels.footroom(), host::bytes_of(&high))
         };
-        assert_eq!(found, room * 1_000);
+        printed("room", room * 1_000, found);
         let contracted = host::quantity(TOPIC, direction, &levels, &points, 4_000_000, tally);
-        assert_eq!(contracted, quantity * 1_000);
+        printed("quantity", quantity * 1_000, contracted);
     }
-    // 003, appendix 1: headroom and footroom with SEL and SIL 0, then with others.
+    // 003, appendix 1: the rooms that its text gives, at levels that lead to them (its figures are not in the text); SEL and
+    // SIL are 0 in the first two.
     let rooms = [
         ([-50, 0, 0, 50, -20], 70, 30),
         ([-50, 0, 0, 50, 0], 50, 50),
@@ -151,7 +156,7 @@ fn quantity(tally: &mut Tally) {
         let equal = host::bytes_of(&[(0, 0), (1, 1)]);
         let low = host::quantity(TOPIC, 1, &levels, &equal, 4_000_000, tally);
         let high = host::quantity(TOPIC, 2, &levels, &equal, 4_000_000, tally);
-        assert_eq!((low, high), (headroom, footroom));
+        printed("rooms", (headroom, footroom), (low, high));
     }
 }
 
@@ -185,9 +190,13 @@ fn table(table: &Table, direction: Direction, number: Int, tally: &mut Tally) ->
 
 /// "Regulation, 100 MW: 49,985 gives 0 kW; 49,984 gives 541; 49,800 gives 100,000." "All 3,600 at 49,984: 271 kWh."
 fn energy() -> Script {
-    assert_eq!(model::response(100, &regulation(), 15), 0);
-    assert_eq!(model::response(100, &regulation(), 16), 541);
-    assert_eq!(model::response(100, &regulation(), 200), 100_000);
+    for (deviation, kw) in [(15, 0), (16, 541), (200, 100_000)] {
+        printed(
+            "response",
+            kw,
+            model::response(100, &regulation(), deviation),
+        );
+    }
     let mut script = Script::new(TOPIC);
     script.curves(&[containment(), regulation(), regulation()]);
     let mut constant = |reading, line: &str| {
@@ -206,8 +215,8 @@ fn energy() -> Script {
 /// accepted, 1 and −1 refused."
 fn ledger() -> Script {
     let (dr, dc) = (Direction([0, 0, 100]), Direction([40, 0, 0]));
-    assert_eq!((dr.rev(), dr.er()), (100_000, 20_000));
-    assert_eq!((dc.rev(), dc.er()), (10_000, 2_000));
+    printed("100 MW DR", (100_000, 20_000), (dr.rev(), dr.er()));
+    printed("40 MW DC", (10_000, 2_000), (dc.rev(), dc.er()));
     let mut script = Script::new(TOPIC);
     script.curves(&[containment(), regulation(), regulation()]);
     let terms = Terms {
@@ -220,7 +229,7 @@ fn ledger() -> Script {
     script.printed("record 0 100000 100000 0 0 0 0 0");
     for (p, number) in [(0, 0), (1, 8), (-1, 8)] {
         script.check(p);
-        assert_eq!(script.record.check(p), number);
+        printed("purchase", number, script.record.check(p));
     }
     script
 }

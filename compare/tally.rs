@@ -1,6 +1,7 @@
 //! Counts of cases, and the end of the program at a difference.
 
 use std::collections::BTreeMap;
+use std::fmt::Debug;
 use std::fs;
 
 #[derive(Default)]
@@ -45,4 +46,13 @@ pub fn stop(topic: &str, input: &[u8], expected: &str, found: &str) -> ! {
     println!("expected: {expected}");
     println!("found:    {found}");
     std::process::exit(1)
+}
+
+/// Stops where the model does not give what a paper prints.
+pub fn printed<T: Debug + PartialEq>(what: &str, paper: T, model: T) {
+    if paper != model {
+        let (paper, model) = (format!("{paper:?}"), format!("{model:?}"));
+        let input = format!("{what}: the paper and the model\n");
+        stop("papers", input.as_bytes(), &paper, &model);
+    }
 }

@@ -1,7 +1,7 @@
 //! The program ledger_trace: texts for it with the lines that the model expects, and runs of it.
 
 use crate::model::{self, Curve, Direction, Entries, Int, Record, Terms};
-use crate::tally::{stop, Tally};
+use crate::tally::{printed, stop, Tally};
 use std::fs::{self, File};
 use std::process::{Command, Stdio};
 
@@ -84,15 +84,15 @@ impl Script {
         self.push(format!("record{}", join(&numbers)), None);
     }
 
-    /// Asserts that the model's last line is the one printed in a paper.
+    /// The model's last line is the one that a paper prints.
     pub fn printed(&self, line: &str) {
-        assert_eq!(self.lines.last().unwrap().text, line);
+        printed(&self.text, line, &self.lines.last().unwrap().text);
     }
 
-    /// Asserts that the model's last eight lines are the rows printed in a paper.
+    /// The model's last eight lines are the rows that a paper prints.
     pub fn printed_rows(&self, rows: &[[Int; 9]; 8]) {
         for (line, row) in self.lines[self.lines.len() - 8..].iter().zip(rows) {
-            assert_eq!(line.text, format!("row{}", join(row)));
+            printed(&self.text, &format!("row{}", join(row)), &line.text);
         }
     }
 

