@@ -72,7 +72,8 @@ def draw(table):
         line(down, y(low), up + bar, y(low), LEVEL, 0.75)
         line(up, y(end), x + slot, y(end), LEVEL, 2)
         text(down + bar / 2, y(start) - 7, mwh(start), LEVEL, more=' font-weight="bold"')
-        text(down + bar / 2, y(low) + 15, "−" + mwh(bound), DOWN)
+        if bound > 0:
+            text(down + bar / 2, y(low) + 15, "−" + mwh(bound), DOWN)
         if back > 0:
             text(up + bar / 2, y(end) - 7, "+" + mwh(back), UP)
         text(x + slot / 2, HEIGHT - BOTTOM + 22, f"period {period}")

@@ -1,14 +1,20 @@
--- What the timing program links: period energy over numbers. Assumes nothing.
+-- What the timing program links: period energy and a closing over numbers. Assumes nothing.
 use mathlib.Core.Bool.{cond}
 use mathlib.Core.List.{List}
 use Prim.Native.Nat.{ℕ, _+_, _*_}
 use lib.Dec.{eqb}
-use Rattle.common.specs.Answer.{Answer, refused, given}
+use lib.IntN.{ℤ, pos}
+use Rattle.common.specs.Answer.{Answer, refused, given, orBlank}
 use Rattle.terms.specs.declared.Quantities.{Quantities}
+use Rattle.terms.specs.declared.Terms.{Terms}
 use Rattle.energy.specs.declared.curve.Curve.{Curve}
 use Rattle.energy.specs.declared.curve.Curves.{Curves}
 use Rattle.energy.specs.Curve.{containmentCurve, regulationCurve}
 use Rattle.energy.specs.Period.{Bounds, periodEnergy}
+use Rattle.ledger_record.specs.declared.Record.{Record}
+use Rattle.ledger_record.specs.Opening.{blankRecord, opening}
+use Rattle.ledger.specs.Calls.{Closing, closing}
+use Rattle.host.specs.Convention.{coded}
 
 abbrev pub quantities : ℕ → ℕ → ℕ → Quantities
 quantities dc dm dr = record { dc = dc; dm = dm; dr = dr }
@@ -28,3 +34,16 @@ oneNumber (given b) = b .low * 4294967296 + b .high
 -- the same quantities in both directions
 abbrev pub periodNumber : Quantities → Curves → List ℕ → ℕ
 periodNumber q cs rs = oneNumber (periodEnergy q q cs rs)
+
+-- regulation alone, as much low as high, with power limits that hold any quantity
+abbrev pub regulationTerms : ℕ → Terms
+regulationTerms mw =
+    record { low = quantities 0 0 mw; high = quantities 0 0 mw; «export_limit» = pos 2000000; «import_limit» = pos 2000000 }
+
+-- opened with the stock curve of regulation for every service
+abbrev pub openedRecord : ℕ → ℕ → ℕ → Record
+openedRecord mw size first = orBlank blankRecord (opening (regulationTerms mw) (curvesOf 2 2 2) size first)
+
+-- the state after one closing, or less than 0 for a refusal
+abbrev pub closingNumber : Record → Closing → ℤ
+closingNumber r c = coded (λ (after : Record). after .state) (closing r c)

@@ -1,13 +1,17 @@
-// What the timing program in bench/ links: period energy over numbers, with the stock curves chosen at run time.
+// What the timing program in bench/ links: period energy over numbers, with the stock curves chosen at run time, and a closing.
 ghost use mathlib.Core.Path.{_≡_};
-ghost use Rattle.bench.specs.Bench.{quantities, curveOf, curvesOf, periodNumber};
+ghost use lib.IntN.{pos};
+ghost use Rattle.bench.specs.Bench.{quantities, curveOf, curvesOf, periodNumber, openedRecord, closingNumber};
 use energy::curve::Curve;
 use energy::curve::Curves;
 use energy::curve::containment_curve;
 use energy::curve::regulation_curve;
 use energy::period::PeriodEnergy;
 use energy::period::period_energy;
+use ledger::CloseAnswer;
+use ledger_record::Record;
 use terms::Quantities;
+use terms::Terms;
 
 fn curve_of(n: u32) -> Curve
     ensures { λ r. ⌜ r ≡ curveOf n ⌝ }
@@ -43,5 +47,67 @@ pub extern "C" fn bench_period(
         PeriodEnergy::Quantity => 1,
         PeriodEnergy::Curve => 5,
         PeriodEnergy::Readings => 6,
+    }
+}
+
+// A record just opened, for regulation alone; a blank one where opening refuses.
+fn opened_record(mw: u32, size: u32, first: u32) -> Record
+    ensures { λ r. ⌜ r ≡ openedRecord mw size first ⌝ }
+{
+    let q = Quantities {
+        dc: 0,
+        dm: 0,
+        dr: mw,
+    };
+    let t = Terms {
+        low: q,
+        high: q,
+        export_limit: 2_000_000,
+        import_limit: 2_000_000,
+    };
+    let curve = curve_of(2);
+    let curves = Curves {
+        dc: curve,
+        dm: curve,
+        dr: curve,
+    };
+    ledger_record::open_record(t, curves, size, first).record
+}
+
+fn whole(n: u32) -> i64
+    ensures { λ r. ⌜ r ≡ pos n ⌝ }
+{
+    n as i64
+}
+
+// Opens a record and closes one period: the new state, or -n for refusal n.
+#[no_mangle]
+pub extern "C" fn bench_closing(
+    mw: u32,
+    size: u32,
+    first: u32,
+    purchase: i64,
+    readings: &[u16],
+    delivered: i64,
+    taken: i64,
+) -> i64
+    ensures { λ r. ⌜ r ≡ closingNumber (openedRecord mw size first) (record { purchase = purchase; readings = now (readings .entry); delivered = delivered; taken = taken }) ⌝ }
+{
+    let closed = ledger::close_period(
+        opened_record(mw, size, first),
+        purchase,
+        readings,
+        delivered,
+        taken,
+    );
+    let after = closed.record;
+    let state = after.state;
+    let answer = closed.answer;
+    match answer {
+        CloseAnswer::Closed => whole(state),
+        CloseAnswer::Unusable => -10,
+        CloseAnswer::Purchase => -8,
+        CloseAnswer::Readings => -6,
+        CloseAnswer::Energy => -9,
     }
 }
