@@ -187,15 +187,31 @@ fn limits_broken(t: &Terms) -> bool {
     broken(t.export_limit, power(t.low, t.high)) || broken(t.import_limit, power(t.high, t.low))
 }
 
+// The arguments of `soe_terms`: the call is a good part of the time.
 #[inline(never)]
-fn plain_terms(t: &Terms) -> i64 {
+extern "C" fn terms_check(
+    low_dc: u32,
+    low_dm: u32,
+    low_dr: u32,
+    high_dc: u32,
+    high_dm: u32,
+    high_dr: u32,
+    export_limit: i64,
+    import_limit: i64,
+) -> i64 {
+    let t = Terms { low: [low_dc, low_dm, low_dr], high: [high_dc, high_dm, high_dr], export_limit, import_limit };
     if quantity(t.low) > 1000 || quantity(t.high) > 1000 {
         return -1;
     }
-    if limits_broken(t) {
+    if limits_broken(&t) {
         return -2;
     }
     0
+}
+
+fn plain_terms(t: &Terms) -> i64 {
+    let (l, h) = (t.low, t.high);
+    terms_check(l[0], l[1], l[2], h[0], h[1], h[2], t.export_limit, t.import_limit)
 }
 
 // ---- the requirement in plain Rust
