@@ -13,16 +13,17 @@ extern "C" {
         readings: *const u16,
         count: usize,
     ) -> u64;
-    fn bench_closing(
+    fn bench_closings(
         mw: u32,
         size: u32,
         first: u32,
+        closings: u32,
         purchase: i64,
         readings: *const u16,
         count: usize,
         delivered: i64,
         taken: i64,
-    ) -> i64;
+    ) -> u64;
     fn soe_report(input: *const u8, input_length: usize, output: *mut u8, output_length: usize) -> i64;
     fn soe_terms(
         low_dc: u32,
@@ -40,12 +41,13 @@ fn proved_period(q: [u32; 3], curves: [u32; 3], readings: &[u16]) -> u64 {
     unsafe { bench_period(q[0], q[1], q[2], curves[0], curves[1], curves[2], readings.as_ptr(), readings.len()) }
 }
 
-fn proved_closing(unit: [u32; 3], c: &Closing, readings: &[u16]) -> i64 {
+fn proved_closings(unit: [u32; 3], n: u32, c: &Closing, readings: &[u16]) -> u64 {
     unsafe {
-        bench_closing(
+        bench_closings(
             unit[0],
             unit[1],
             unit[2],
+            n,
             c.purchase,
             readings.as_ptr(),
             readings.len(),
@@ -342,7 +344,7 @@ fn plain_report(input: &[u8], output: &mut [u8]) -> i64 {
     0
 }
 
-// ---- a closing in plain Rust: each table is made once where the bounds are the same
+// ---- closings in plain Rust: a table is made once for the same bounds
 
 #[derive(Clone, Copy, Default)]
 struct Entries {
@@ -395,7 +397,6 @@ fn opening(t: &Terms, curves: &[Curve; 3], size: u32, first: u32) -> i64 {
 }
 
 // A blank record where opening refuses.
-#[inline(never)]
 fn open(unit: [u32; 3]) -> Record {
     let [mw, size, first] = unit;
     let q = [0, 0, mw];
@@ -465,7 +466,6 @@ fn close_entries(q: [u32; 3], e: &mut Entries, at: usize, bound: u32) {
     e.scheds[at] = row.sched;
 }
 
-#[inline(never)]
 fn close(r: &Record, c: &Closing, readings: &[u16]) -> Result<Record, i64> {
     let low = table(r.terms.low, &r.low.bounds);
     let high = table(r.terms.high, &r.high.bounds);
@@ -501,11 +501,14 @@ fn close(r: &Record, c: &Closing, readings: &[u16]) -> Result<Record, i64> {
 }
 
 #[inline(never)]
-fn plain_closing(unit: [u32; 3], c: &Closing, readings: &[u16]) -> i64 {
-    match close(&open(unit), c, readings) {
-        Ok(after) => black_box(after).state as i64,
-        Err(n) => n,
+fn plain_closings(unit: [u32; 3], n: u32, c: &Closing, readings: &[u16]) -> u64 {
+    let mut record = open(unit);
+    for _ in 0..n {
+        if let Ok(after) = close(&record, c, readings) {
+            record = after;
+        }
     }
+    record.closed as u64 * 4294967296 + record.state as u64
 }
 
 // ---- readings, texts and terms
@@ -661,50 +664,53 @@ fn term_checks(random: &mut Random) {
     }
 }
 
-fn same_closing(unit: [u32; 3], c: &Closing, readings: &[u16], state: i64) {
-    assert_eq!(proved_closing(unit, c, readings), state);
-    assert_eq!(plain_closing(unit, c, readings), state);
+fn same_closings(unit: [u32; 3], n: u32, c: &Closing, readings: &[u16], closed: u64, state: u64) {
+    let number = closed * 4294967296 + state;
+    assert_eq!(proved_closings(unit, n, c, readings), number);
+    assert_eq!(plain_closings(unit, n, c, readings), number);
 }
 
 fn closings(kinds: &[(&str, Vec<Vec<u16>>)]) {
     let unit = [100, 300_000, 150_000];
+    let c = |purchase, delivered, taken| Closing { purchase, delivered, taken };
     for (name, periods) in kinds {
-        // all of the bounds is delivered and taken
+        // as much is taken as delivered, so that all eight are carried out
         let mut all = Vec::new();
         for readings in periods {
             let bounds = plain_period([0, 0, 100], [2, 2, 2], readings);
             let (low, high) = ((bounds >> 32) as i64, (bounds & 0xffff_ffff) as i64);
-            let c = |purchase, delivered, taken| Closing { purchase, delivered, taken };
-            same_closing(unit, &c(1000, low, high), readings, 151_000 - low + high);
+            let both = low.min(high);
+            same_closings(unit, 8, &c(0, both, both), readings, 8, 150_000);
+            same_closings(unit, 9, &c(0, both, both), readings, 8, 150_000);
+            same_closings(unit, 1, &c(1000, low, high), readings, 1, (151_000 - low + high) as u64);
             for refused in [c(0, low + 1, high), c(0, low, high + 1), c(0, -1, 0), c(0, 0, -1)] {
-                same_closing(unit, &refused, readings, -9);
+                same_closings(unit, 1, &refused, readings, 0, 150_000);
             }
             for purchase in [50_001, -50_001, i64::MAX, i64::MIN] {
-                same_closing(unit, &c(purchase, low, high), readings, -8);
+                same_closings(unit, 1, &c(purchase, low, high), readings, 0, 150_000);
             }
             for unit in [[0, 300_000, 150_000], [100, 199_999, 100_000], [1001, 9_000_000, 4_500_000]] {
-                same_closing(unit, &c(1000, low, high), readings, -10);
+                same_closings(unit, 1, &c(0, both, both), readings, 0, 0);
             }
-            all.push(c(1000, low, high));
+            all.push(c(0, both, both));
         }
-        let run = |f: fn([u32; 3], &Closing, &[u16]) -> i64| {
+        let run = |f: fn([u32; 3], u32, &Closing, &[u16]) -> u64| {
             let all = &all;
             move |i: usize| {
-                black_box(f(black_box(unit), black_box(&all[i]), black_box(&periods[i])));
+                black_box(f(black_box(unit), black_box(8), black_box(&all[i]), black_box(&periods[i])));
             }
         };
-        compare("closing", name, PERIODS, run(proved_closing), run(plain_closing));
+        compare("eight closings", name, PERIODS, run(proved_closings), run(plain_closings));
     }
-    // opening, the record rule and the purchase, without the readings
-    let c = Closing { purchase: 1000, delivered: 0, taken: 0 };
-    same_closing(unit, &c, &[], -6);
-    let run = |f: fn([u32; 3], &Closing, &[u16]) -> i64| {
-        let c = &c;
+    // the record rule and the purchase, without the readings
+    same_closings(unit, 8, &c(1000, 0, 0), &[], 0, 150_000);
+    let run = |f: fn([u32; 3], u32, &Closing, &[u16]) -> u64| {
+        let c = c(1000, 0, 0);
         move |_: usize| {
-            black_box(f(black_box(unit), black_box(c), black_box(&[])));
+            black_box(f(black_box(unit), black_box(8), black_box(&c), black_box(&[])));
         }
     };
-    compare("closing", "no readings: refusal 6", 1000, run(proved_closing), run(plain_closing));
+    compare("eight closings", "no readings: refused", 1000, run(proved_closings), run(plain_closings));
 }
 
 fn main() {

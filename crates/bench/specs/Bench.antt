@@ -1,9 +1,9 @@
--- What the timing program links: period energy and a closing over numbers. Assumes nothing.
+-- What the timing program links: period energy and closings over numbers. Assumes nothing.
 use mathlib.Core.Bool.{cond}
 use mathlib.Core.List.{List}
-use Prim.Native.Nat.{ℕ, _+_, _*_}
+use Prim.Native.Nat.{ℕ, zero, suc, _+_, _*_}
 use lib.Dec.{eqb}
-use lib.IntN.{ℤ, pos}
+use lib.IntN.{pos}
 use Rattle.common.specs.Answer.{Answer, refused, given, orBlank}
 use Rattle.terms.specs.declared.Quantities.{Quantities}
 use Rattle.terms.specs.declared.Terms.{Terms}
@@ -14,7 +14,6 @@ use Rattle.energy.specs.Period.{Bounds, periodEnergy}
 use Rattle.ledger_record.specs.declared.Record.{Record}
 use Rattle.ledger_record.specs.Opening.{blankRecord, opening}
 use Rattle.ledger.specs.Calls.{Closing, closing}
-use Rattle.host.specs.Convention.{coded}
 
 abbrev pub quantities : ℕ → ℕ → ℕ → Quantities
 quantities dc dm dr = record { dc = dc; dm = dm; dr = dr }
@@ -44,6 +43,11 @@ regulationTerms mw =
 abbrev pub openedRecord : ℕ → ℕ → ℕ → Record
 openedRecord mw size first = orBlank blankRecord (opening (regulationTerms mw) (curvesOf 2 2 2) size first)
 
--- the state after one closing, or less than 0 for a refusal
-abbrev pub closingNumber : Record → Closing → ℤ
-closingNumber r c = coded (λ (after : Record). after .state) (closing r c)
+-- the record after n closings with the same arguments, each on the record that the last one returned or left
+unfoldable pub closings : ℕ → Record → Closing → Record
+closings zero r c = r
+closings (suc n) r c = orBlank (closings n r c) (closing (closings n r c) c)
+
+-- the periods closed and the state as one number
+abbrev pub recordNumber : Record → ℕ
+recordNumber r = r .closed * 4294967296 + r .state

@@ -1,14 +1,13 @@
-// What the timing program in bench/ links: period energy over numbers, with the stock curves chosen at run time, and a closing.
+// What the timing program in bench/ links: period energy over numbers, with the stock curves chosen at run time, and closings.
 ghost use mathlib.Core.Path.{_≡_};
-ghost use lib.IntN.{pos};
-ghost use Rattle.bench.specs.Bench.{quantities, curveOf, curvesOf, periodNumber, openedRecord, closingNumber};
+ghost use Prim.Native.Nat.{_+_, _*_};
+ghost use Rattle.bench.specs.Bench.{quantities, curveOf, curvesOf, periodNumber, openedRecord, closings, recordNumber};
 use energy::curve::Curve;
 use energy::curve::Curves;
 use energy::curve::containment_curve;
 use energy::curve::regulation_curve;
 use energy::period::PeriodEnergy;
 use energy::period::period_energy;
-use ledger::CloseAnswer;
 use ledger_record::Record;
 use terms::Quantities;
 use terms::Terms;
@@ -74,40 +73,32 @@ fn opened_record(mw: u32, size: u32, first: u32) -> Record
     ledger_record::open_record(t, curves, size, first).record
 }
 
-fn whole(n: u32) -> i64
-    ensures { λ r. ⌜ r ≡ pos n ⌝ }
+// Two numbers as one.
+fn one_number(a: u32, b: u32) -> u64
+    ensures { λ r. ⌜ r ≡ a * 4294967296 + b ⌝ }
 {
-    n as i64
+    a as u64 * 4294967296 + b as u64
 }
 
-// Opens a record and closes one period: the new state, or -n for refusal n.
+// Opens a record and closes as many periods with the same arguments: the periods closed times 2^32, and the state.
 #[no_mangle]
-pub extern "C" fn bench_closing(
+pub extern "C" fn bench_closings(
     mw: u32,
     size: u32,
     first: u32,
+    count: u32,
     purchase: i64,
     readings: &[u16],
     delivered: i64,
     taken: i64,
-) -> i64
-    ensures { λ r. ⌜ r ≡ closingNumber (openedRecord mw size first) (record { purchase = purchase; readings = now (readings .entry); delivered = delivered; taken = taken }) ⌝ }
+) -> u64
+    ensures { λ r. ⌜ r ≡ recordNumber (closings count (openedRecord mw size first) (record { purchase = purchase; readings = now (readings .entry); delivered = delivered; taken = taken })) ⌝ }
 {
-    let closed = ledger::close_period(
-        opened_record(mw, size, first),
-        purchase,
-        readings,
-        delivered,
-        taken,
-    );
-    let after = closed.record;
-    let state = after.state;
-    let answer = closed.answer;
-    match answer {
-        CloseAnswer::Closed => whole(state),
-        CloseAnswer::Unusable => -10,
-        CloseAnswer::Purchase => -8,
-        CloseAnswer::Readings => -6,
-        CloseAnswer::Energy => -9,
+    let mut after = opened_record(mw, size, first);
+    let mut i: u32 = 0;
+    while i < count {
+        after = ledger::close_period(after, purchase, readings, delivered, taken).record;
+        i += 1;
     }
+    one_number(after.closed, after.state)
 }
