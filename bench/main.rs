@@ -1,4 +1,4 @@
-// Times `period_energy`, through the static library of crate bench, against the same work in plain Rust, in one run.
+// Times the proved code, through the static libraries of crates bench and host, against the same work in plain Rust, in one run.
 use std::hint::black_box;
 use std::time::Instant;
 
@@ -13,15 +13,60 @@ extern "C" {
         readings: *const u16,
         count: usize,
     ) -> u64;
+    fn bench_closings(
+        mw: u32,
+        size: u32,
+        first: u32,
+        closings: u32,
+        purchase: i64,
+        readings: *const u16,
+        count: usize,
+        delivered: i64,
+        taken: i64,
+    ) -> u64;
+    fn soe_report(input: *const u8, input_length: usize, output: *mut u8, output_length: usize) -> i64;
+    fn soe_terms(
+        low_dc: u32,
+        low_dm: u32,
+        low_dr: u32,
+        high_dc: u32,
+        high_dm: u32,
+        high_dr: u32,
+        export_limit: i64,
+        import_limit: i64,
+    ) -> i64;
 }
 
-fn rattle(q: [u32; 3], curves: [u32; 3], readings: &[u16]) -> u64 {
+fn proved_period(q: [u32; 3], curves: [u32; 3], readings: &[u16]) -> u64 {
+    unsafe { bench_period(q[0], q[1], q[2], curves[0], curves[1], curves[2], readings.as_ptr(), readings.len()) }
+}
+
+fn proved_closings(unit: [u32; 3], n: u32, c: &Closing, readings: &[u16]) -> u64 {
     unsafe {
-        bench_period(q[0], q[1], q[2], curves[0], curves[1], curves[2], readings.as_ptr(), readings.len())
+        bench_closings(
+            unit[0],
+            unit[1],
+            unit[2],
+            n,
+            c.purchase,
+            readings.as_ptr(),
+            readings.len(),
+            c.delivered,
+            c.taken,
+        )
     }
 }
 
-// ---- the same work in plain Rust
+fn proved_report(input: &[u8], output: &mut [u8]) -> i64 {
+    unsafe { soe_report(input.as_ptr(), input.len(), output.as_mut_ptr(), output.len()) }
+}
+
+fn proved_terms(t: &Terms) -> i64 {
+    let (l, h) = (t.low, t.high);
+    unsafe { soe_terms(l[0], l[1], l[2], h[0], h[1], h[2], t.export_limit, t.import_limit) }
+}
+
+// ---- period energy in plain Rust
 
 #[derive(Clone, Copy)]
 struct Point {
@@ -29,6 +74,7 @@ struct Point {
     share: u16,
 }
 
+#[derive(Clone, Copy)]
 struct Curve {
     count: u8,
     points: [Point; 5],
@@ -75,35 +121,397 @@ fn response(mw: u32, points: &[Point], deviation: u32) -> u32 {
     mw * last.share as u32
 }
 
-#[inline(never)]
-fn rust(q: [u32; 3], curves: [u32; 3], readings: &[u16]) -> u64 {
-    if q.iter().map(|&mw| mw as u64).sum::<u64>() > 1000 {
-        return 1;
+#[inline(always)]
+fn period_energy(low: [u32; 3], high: [u32; 3], curves: &[Curve; 3], readings: &[u16]) -> Result<(u32, u32), u64> {
+    if quantity(low) > 1000 || quantity(high) > 1000 {
+        return Err(1);
     }
-    let curves = [curve_of(curves[0]), curve_of(curves[1]), curve_of(curves[2])];
     if !curves.iter().all(Curve::holds) {
-        return 5;
+        return Err(5);
     }
     if readings.len() != 3600 {
-        return 6;
+        return Err(6);
     }
     let [dc, dm, dr] = [curves[0].points(), curves[1].points(), curves[2].points()];
-    let (mut low, mut high) = (0u32, 0u32);
+    let all = |q: [u32; 3], d: u32| response(q[0], dc, d) + response(q[1], dm, d) + response(q[2], dr, d);
+    let (mut below, mut above) = (0u32, 0u32);
     for &r in readings {
         if !(47000..=53000).contains(&r) {
-            return 6;
+            return Err(6);
         }
-        let all = |d: u32| response(q[0], dc, d) + response(q[1], dm, d) + response(q[2], dr, d);
         if r < 50000 {
-            low += all(50000 - r as u32);
+            below += all(low, 50000 - r as u32);
         } else if 50000 < r {
-            high += all(r as u32 - 50000);
+            above += all(high, r as u32 - 50000);
         }
     }
-    ((low + 7199) / 7200) as u64 * 4294967296 + ((high + 7199) / 7200) as u64
+    Ok(((below + 7199) / 7200, (above + 7199) / 7200))
 }
 
-// ---- readings
+#[inline(never)]
+fn plain_period(q: [u32; 3], curves: [u32; 3], readings: &[u16]) -> u64 {
+    let curves = [curve_of(curves[0]), curve_of(curves[1]), curve_of(curves[2])];
+    match period_energy(q, q, &curves, readings) {
+        Ok((low, high)) => low as u64 * 4294967296 + high as u64,
+        Err(n) => n,
+    }
+}
+
+// ---- the terms check in plain Rust
+
+#[derive(Clone, Copy)]
+struct Terms {
+    low: [u32; 3],
+    high: [u32; 3],
+    export_limit: i64,
+    import_limit: i64,
+}
+
+fn weighted(q: [u32; 3], weights: [u64; 3]) -> u64 {
+    (0..3).map(|i| weights[i] * q[i] as u64).sum()
+}
+
+fn quantity(q: [u32; 3]) -> u64 {
+    weighted(q, [1, 1, 1])
+}
+
+fn rev(q: [u32; 3]) -> u64 {
+    weighted(q, [250, 500, 1000])
+}
+
+fn er(q: [u32; 3]) -> u64 {
+    weighted(q, [50, 100, 200])
+}
+
+fn limits_broken(t: &Terms) -> bool {
+    let power = |own, other| 1000 * quantity(own) + weighted(other, [100, 200, 400]);
+    let broken = |limit: i64, power: u64| !(0..=2_000_000).contains(&limit) || (limit as u64) < power;
+    broken(t.export_limit, power(t.low, t.high)) || broken(t.import_limit, power(t.high, t.low))
+}
+
+// The arguments of `soe_terms`: the call is a good part of the time.
+#[inline(never)]
+extern "C" fn terms_check(
+    low_dc: u32,
+    low_dm: u32,
+    low_dr: u32,
+    high_dc: u32,
+    high_dm: u32,
+    high_dr: u32,
+    export_limit: i64,
+    import_limit: i64,
+) -> i64 {
+    let t = Terms { low: [low_dc, low_dm, low_dr], high: [high_dc, high_dm, high_dr], export_limit, import_limit };
+    if quantity(t.low) > 1000 || quantity(t.high) > 1000 {
+        return -1;
+    }
+    if limits_broken(&t) {
+        return -2;
+    }
+    0
+}
+
+fn plain_terms(t: &Terms) -> i64 {
+    let (l, h) = (t.low, t.high);
+    terms_check(l[0], l[1], l[2], h[0], h[1], h[2], t.export_limit, t.import_limit)
+}
+
+// ---- the requirement in plain Rust
+
+#[derive(Clone, Copy, Default)]
+struct Row {
+    left: u64,
+    sched: u64,
+    back: u64,
+    start: i64,
+    end: i64,
+    flag: bool,
+}
+
+// Eight rows, and the start after them.
+fn table(q: [u32; 3], bounds: &[u32; 8]) -> ([Row; 8], i64) {
+    let er = er(q);
+    let mut rows = [Row::default(); 8];
+    let mut left = 0;
+    let mut start = rev(q) as i64;
+    for i in 0..8 {
+        let due = bounds[i] as u64 + left;
+        let sched = due.min(er);
+        let back = if i < 4 { 0 } else { rows[i - 4].sched };
+        let end = start - bounds[i] as i64 + back as i64;
+        rows[i] = Row { left, sched, back, start, end, flag: start <= 0 || end <= 0 };
+        left = due - sched;
+        start = end;
+    }
+    (rows, start)
+}
+
+// ---- a report in plain Rust
+
+fn number(cell: &[u8]) -> Option<u32> {
+    let blanks = cell.iter().position(|&b| b != b' ')?;
+    let digits = &cell[blanks..];
+    if digits[0] == b'0' && digits.len() > 1 {
+        return None;
+    }
+    let mut n = 0;
+    for &b in digits {
+        if !b.is_ascii_digit() {
+            return None;
+        }
+        n = 10 * n + (b - b'0') as u32;
+    }
+    Some(n)
+}
+
+struct Input {
+    q: [u32; 3],
+    bounds: [u32; 8],
+    reported: [u32; 8],
+}
+
+fn parse(text: &[u8]) -> Option<Input> {
+    if text.len() != 189 {
+        return None;
+    }
+    let (header, lines) = text.split_at(37);
+    let direction = number(&header[0..9])?;
+    let q = [number(&header[9..18])?, number(&header[18..27])?, number(&header[27..36])?];
+    if header[36] != b'\n' || !(1..=2).contains(&direction) {
+        return None;
+    }
+    let mut input = Input { q, bounds: [0; 8], reported: [0; 8] };
+    for (i, line) in lines.chunks_exact(19).enumerate() {
+        input.bounds[i] = number(&line[0..9])?;
+        input.reported[i] = number(&line[9..18])?;
+        if line[18] != b'\n' {
+            return None;
+        }
+    }
+    Some(input)
+}
+
+// Right-justified.
+fn put(cell: &mut [u8], z: i64) {
+    let mut n = z.unsigned_abs();
+    let mut at = cell.len();
+    loop {
+        at -= 1;
+        cell[at] = b'0' + (n % 10) as u8;
+        n /= 10;
+        if n == 0 {
+            break;
+        }
+    }
+    if z < 0 {
+        at -= 1;
+        cell[at] = b'-';
+    }
+    cell[..at].fill(b' ');
+}
+
+#[inline(never)]
+fn plain_report(input: &[u8], output: &mut [u8]) -> i64 {
+    let Some(p) = parse(input) else {
+        return -13;
+    };
+    let quantity = quantity(p.q);
+    if quantity == 0 || 1000 < quantity {
+        return -1;
+    }
+    if p.bounds.iter().any(|&b| 500 * quantity < b as u64) {
+        return -7;
+    }
+    if p.reported.iter().any(|&e| 10_000_000 < e) {
+        return -11;
+    }
+    if output.len() < 488 {
+        return -14;
+    }
+    let (rows, _) = table(p.q, &p.bounds);
+    for (i, (r, line)) in rows.iter().zip(output.chunks_exact_mut(61)).enumerate() {
+        put(&mut line[0..2], i as i64 + 1);
+        put(&mut line[2..11], p.bounds[i] as i64);
+        put(&mut line[11..20], r.start);
+        put(&mut line[20..29], r.end);
+        put(&mut line[29..38], r.sched as i64);
+        put(&mut line[38..47], r.back as i64);
+        put(&mut line[47..56], r.left as i64);
+        put(&mut line[56..58], r.flag as i64);
+        put(&mut line[58..60], (r.start.max(0) <= p.reported[i] as i64) as i64);
+        line[60] = b'\n';
+    }
+    0
+}
+
+// ---- closings in plain Rust: a table is made once for the same bounds
+
+#[derive(Clone, Copy, Default)]
+struct Entries {
+    bounds: [u32; 8],
+    starts: [i64; 8],
+    scheds: [u64; 8],
+}
+
+#[derive(Clone)]
+struct Record {
+    terms: Terms,
+    curves: [Curve; 3],
+    size: u32,
+    first: u32,
+    state: u32,
+    closed: u32,
+    low: Entries,
+    high: Entries,
+    bought: u32,
+    sold: u32,
+    delivered: u32,
+    taken: u32,
+}
+
+struct Closing {
+    purchase: i64,
+    delivered: i64,
+    taken: i64,
+}
+
+fn opening(t: &Terms, curves: &[Curve; 3], size: u32, first: u32) -> i64 {
+    let (low, high) = (quantity(t.low), quantity(t.high));
+    if low > 1000 || high > 1000 || (low == 0 && high == 0) {
+        return -1;
+    }
+    if limits_broken(t) {
+        return -2;
+    }
+    if !curves.iter().all(Curve::holds) {
+        return -5;
+    }
+    let (low, high) = (rev(t.low), rev(t.high));
+    if 10_000_000 < size || (size as u64) < low + high {
+        return -3;
+    }
+    if (first as u64) < low || (size as u64) < first as u64 + high {
+        return -4;
+    }
+    0
+}
+
+// A blank record where opening refuses.
+fn open(unit: [u32; 3]) -> Record {
+    let [mw, size, first] = unit;
+    let q = [0, 0, mw];
+    let mut terms = Terms { low: q, high: q, export_limit: 2_000_000, import_limit: 2_000_000 };
+    let mut curves = [curve_of(2); 3];
+    let (mut size, mut first) = (size, first);
+    if opening(&terms, &curves, size, first) != 0 {
+        terms = Terms { low: [0; 3], high: [0; 3], export_limit: 0, import_limit: 0 };
+        curves = [Curve { count: 0, points: [Point { deviation: 0, share: 0 }; 5] }; 3];
+        (size, first) = (0, 0);
+    }
+    Record {
+        terms,
+        curves,
+        size,
+        first,
+        state: first,
+        closed: 0,
+        low: Entries::default(),
+        high: Entries::default(),
+        bought: 0,
+        sold: 0,
+        delivered: 0,
+        taken: 0,
+    }
+}
+
+fn entries_hold(q: [u32; 3], closed: usize, e: &Entries, rows: &[Row; 8]) -> bool {
+    (0..8).all(|i| {
+        if i < closed {
+            e.bounds[i] as u64 <= 500 * quantity(q) && e.starts[i] == rows[i].start && e.scheds[i] == rows[i].sched
+        } else {
+            e.bounds[i] == 0 && e.starts[i] == 0 && e.scheds[i] == 0
+        }
+    })
+}
+
+fn sum(bounds: &[u32; 8]) -> u64 {
+    bounds.iter().map(|&b| b as u64).sum()
+}
+
+fn record_holds(r: &Record, low: &([Row; 8], i64), high: &([Row; 8], i64)) -> bool {
+    let closed = r.closed as usize;
+    if 8 < closed {
+        return false;
+    }
+    let next = |t: &([Row; 8], i64)| if closed == 8 { t.1 } else { t.0[closed].start };
+    let most = 10_000_000 * r.closed as u64;
+    opening(&r.terms, &r.curves, r.size, r.first) == 0
+        && entries_hold(r.terms.low, closed, &r.low, &low.0)
+        && entries_hold(r.terms.high, closed, &r.high, &high.0)
+        && r.bought as u64 <= most
+        && r.sold as u64 <= most
+        && r.delivered as u64 <= sum(&r.low.bounds)
+        && r.taken as u64 <= sum(&r.high.bounds)
+        && r.state <= r.size
+        && next(low) <= r.state as i64
+        && next(high) <= (r.size - r.state) as i64
+        && r.state as i64
+            == r.first as i64 + r.bought as i64 - r.sold as i64 - r.delivered as i64 + r.taken as i64
+}
+
+fn close_entries(q: [u32; 3], e: &mut Entries, at: usize, bound: u32) {
+    e.bounds[at] = bound;
+    let row = table(q, &e.bounds).0[at];
+    e.starts[at] = row.start;
+    e.scheds[at] = row.sched;
+}
+
+fn close(r: &Record, c: &Closing, readings: &[u16]) -> Result<Record, i64> {
+    let low = table(r.terms.low, &r.low.bounds);
+    let high = table(r.terms.high, &r.high.bounds);
+    if r.closed == 8 || !record_holds(r, &low, &high) {
+        return Err(-10);
+    }
+    let at = r.closed as usize;
+    let need = |t: &([Row; 8], i64)| (t.0[at].start + t.0[at].back as i64).max(0);
+    let bought = (r.state as i64).checked_add(c.purchase);
+    if !bought.is_some_and(|s| need(&low) <= s && s <= r.size as i64 - need(&high)) {
+        return Err(-8);
+    }
+    let Ok((low, high)) = period_energy(r.terms.low, r.terms.high, &r.curves, readings) else {
+        return Err(-6);
+    };
+    if !(0..=low as i64).contains(&c.delivered) || !(0..=high as i64).contains(&c.taken) {
+        return Err(-9);
+    }
+    let state = r.state as i64 + c.purchase - c.delivered + c.taken;
+    if !(0..=r.size as i64).contains(&state) {
+        return Err(-9);
+    }
+    let mut after = r.clone();
+    after.state = state as u32;
+    after.closed += 1;
+    close_entries(r.terms.low, &mut after.low, at, low);
+    close_entries(r.terms.high, &mut after.high, at, high);
+    after.bought += c.purchase.max(0) as u32;
+    after.sold += (-c.purchase).max(0) as u32;
+    after.delivered += c.delivered as u32;
+    after.taken += c.taken as u32;
+    Ok(after)
+}
+
+#[inline(never)]
+fn plain_closings(unit: [u32; 3], n: u32, c: &Closing, readings: &[u16]) -> u64 {
+    let mut record = open(unit);
+    for _ in 0..n {
+        if let Ok(after) = close(&record, c, readings) {
+            record = after;
+        }
+    }
+    record.closed as u64 * 4294967296 + record.state as u64
+}
+
+// ---- readings, texts and terms
 
 struct Random(u32);
 
@@ -136,19 +544,38 @@ fn calm(random: &mut Random) -> Vec<u16> {
     (0..3600).map(|_| 49980 + random.below(41) as u16).collect()
 }
 
+// A text of the report that is not refused.
+fn text(random: &mut Random) -> Vec<u8> {
+    let q = [random.below(300), random.below(300), 1 + random.below(300)];
+    let mut out = format!("{:9}{:9}{:9}{:9}\n", 1 + random.below(2), q[0], q[1], q[2]);
+    for _ in 0..8 {
+        let bound = random.below(500 * (q[0] + q[1] + q[2]) + 1);
+        out += &format!("{:9}{:9}\n", bound, random.below(10_000_001));
+    }
+    out.into_bytes()
+}
+
+// Terms of which some are refused.
+fn terms(random: &mut Random) -> Terms {
+    let mut q = || [random.below(400), random.below(400), random.below(400)];
+    let (low, high) = (q(), q());
+    let mut limit = || random.below(2_100_000) as i64 - 50_000;
+    Terms { low, high, export_limit: limit(), import_limit: limit() }
+}
+
 // ---- timing: the least time of each over the repetitions, and the middle and the middle half of the ratios
 
 const REPETITIONS: usize = 401;
 // Different ones, so that no branch is foreseen because the same readings came before.
 const PERIODS: usize = 25;
 
-// Microseconds for one period.
-fn time(f: fn([u32; 3], [u32; 3], &[u16]) -> u64, q: [u32; 3], periods: &[Vec<u16>]) -> f64 {
+// Microseconds for one of count.
+fn time(count: usize, f: &impl Fn(usize)) -> f64 {
     let start = Instant::now();
-    for readings in periods {
-        black_box(f(black_box(q), black_box([1, 2, 2]), black_box(readings)));
+    for i in 0..count {
+        f(i);
     }
-    start.elapsed().as_secs_f64() * 1e6 / PERIODS as f64
+    start.elapsed().as_secs_f64() * 1e6 / count as f64
 }
 
 fn sorted(mut xs: Vec<f64>) -> Vec<f64> {
@@ -156,32 +583,143 @@ fn sorted(mut xs: Vec<f64>) -> Vec<f64> {
     xs
 }
 
-fn main() {
-    let mut random = Random(1);
-    let mut periods = |f: fn(&mut Random) -> Vec<u16>| (0..PERIODS).map(|_| f(&mut random)).collect::<Vec<_>>();
-    let kinds = [("within 300 mHz", periods(varied)), ("a slow walk", periods(walk)), ("calm", periods(calm))];
-    println!("{:15} {:9} {:>11} {:>11} {:>6}  {}", "readings", "services", "Rattle, us", "Rust, us", "ratio", "middle half");
-    for (name, periods) in &kinds {
-        for (services, q) in [("three", [40, 60, 100]), ("one", [0, 0, 100])] {
+fn compare(work: &str, of: &str, count: usize, ours: impl Fn(usize), theirs: impl Fn(usize)) {
+    let (mut a, mut b, mut ratios) = (Vec::new(), Vec::new(), Vec::new());
+    for _ in 0..REPETITIONS {
+        let (x, y) = (time(count, &ours), time(count, &theirs));
+        a.push(x);
+        b.push(y);
+        ratios.push(x / y);
+    }
+    let (a, b, ratios) = (sorted(a), sorted(b), sorted(ratios));
+    let middle = REPETITIONS / 2;
+    println!(
+        "{:14} {:30} {:11.3} {:11.3} {:6.2}  {:.2} to {:.2}",
+        work, of, a[0], b[0], ratios[middle], ratios[middle / 2], ratios[middle + middle / 2]
+    );
+}
+
+fn periods(kinds: &[(&str, Vec<Vec<u16>>)]) {
+    for (name, periods) in kinds {
+        for (services, q) in [("three services", [40, 60, 100]), ("one service", [0, 0, 100])] {
             for readings in periods {
-                assert_eq!(rattle(q, [1, 2, 2], readings), rust(q, [1, 2, 2], readings));
+                assert_eq!(proved_period(q, [1, 2, 2], readings), plain_period(q, [1, 2, 2], readings));
             }
-            let mut ours = Vec::new();
-            let mut theirs = Vec::new();
-            let mut ratios = Vec::new();
-            for _ in 0..REPETITIONS {
-                let a = time(rattle, q, periods);
-                let b = time(rust, q, periods);
-                ours.push(a);
-                theirs.push(b);
-                ratios.push(a / b);
-            }
-            let (ours, theirs, ratios) = (sorted(ours), sorted(theirs), sorted(ratios));
-            let middle = REPETITIONS / 2;
-            println!(
-                "{:15} {:9} {:11.2} {:11.2} {:6.2}  {:.2} to {:.2}",
-                name, services, ours[0], theirs[0], ratios[middle], ratios[middle / 2], ratios[middle + middle / 2]
-            );
+            let run = |f: fn([u32; 3], [u32; 3], &[u16]) -> u64| {
+                move |i: usize| {
+                    black_box(f(black_box(q), black_box([1, 2, 2]), black_box(&periods[i])));
+                }
+            };
+            compare("period energy", &format!("{name}, {services}"), PERIODS, run(proved_period), run(plain_period));
         }
     }
+}
+
+fn same_report(input: &[u8], length: usize) {
+    let (mut ours, mut theirs) = (vec![7u8; length], vec![7u8; length]);
+    assert_eq!(proved_report(input, &mut ours), plain_report(input, &mut theirs));
+    assert_eq!(ours, theirs);
+}
+
+fn reports(random: &mut Random) {
+    let example = include_bytes!("../crates/soereport/stdin").to_vec();
+    let mut output = [0u8; 488];
+    assert_eq!(proved_report(&example, &mut output), 0);
+    assert_eq!(&output, include_bytes!("../crates/soereport/stdout"));
+    for at in 0..example.len() {
+        for byte in [b' ', b'0', b'9', b'-', b'\n'] {
+            let mut damaged = example.clone();
+            damaged[at] = byte;
+            same_report(&damaged, 488);
+        }
+        same_report(&example[..at], 488);
+    }
+    same_report(&example, 487);
+    let others: Vec<_> = (0..1000).map(|_| text(random)).collect();
+    for (name, texts) in [("paper 01's example", vec![example; 1000]), ("1,000 texts", others)] {
+        texts.iter().for_each(|t| same_report(t, 488));
+        let run = |f: fn(&[u8], &mut [u8]) -> i64| {
+            let texts = &texts;
+            move |i: usize| {
+                let mut output = [0u8; 488];
+                black_box(f(black_box(&texts[i]), black_box(&mut output)));
+            }
+        };
+        compare("report", name, texts.len(), run(proved_report), run(plain_report));
+    }
+}
+
+fn term_checks(random: &mut Random) {
+    let example = Terms { low: [0, 0, 100], high: [0, 0, 100], export_limit: 140_000, import_limit: 140_000 };
+    let others: Vec<_> = (0..10_000).map(|_| terms(random)).collect();
+    for (name, all) in [("one, good", vec![example; 10_000]), ("10,000, some refused", others)] {
+        all.iter().for_each(|t| assert_eq!(proved_terms(t), plain_terms(t)));
+        let run = |f: fn(&Terms) -> i64| {
+            let all = &all;
+            move |i: usize| {
+                black_box(f(black_box(&all[i])));
+            }
+        };
+        compare("terms check", name, all.len(), run(proved_terms), run(plain_terms));
+    }
+}
+
+fn same_closings(unit: [u32; 3], n: u32, c: &Closing, readings: &[u16], closed: u64, state: u64) {
+    let number = closed * 4294967296 + state;
+    assert_eq!(proved_closings(unit, n, c, readings), number);
+    assert_eq!(plain_closings(unit, n, c, readings), number);
+}
+
+fn closings(kinds: &[(&str, Vec<Vec<u16>>)]) {
+    let unit = [100, 300_000, 150_000];
+    let c = |purchase, delivered, taken| Closing { purchase, delivered, taken };
+    for (name, periods) in kinds {
+        // as much is taken as delivered, so that all eight are carried out
+        let mut all = Vec::new();
+        for readings in periods {
+            let bounds = plain_period([0, 0, 100], [2, 2, 2], readings);
+            let (low, high) = ((bounds >> 32) as i64, (bounds & 0xffff_ffff) as i64);
+            let both = low.min(high);
+            same_closings(unit, 8, &c(0, both, both), readings, 8, 150_000);
+            same_closings(unit, 9, &c(0, both, both), readings, 8, 150_000);
+            same_closings(unit, 1, &c(1000, low, high), readings, 1, (151_000 - low + high) as u64);
+            for refused in [c(0, low + 1, high), c(0, low, high + 1), c(0, -1, 0), c(0, 0, -1)] {
+                same_closings(unit, 1, &refused, readings, 0, 150_000);
+            }
+            for purchase in [50_001, -50_001, i64::MAX, i64::MIN] {
+                same_closings(unit, 1, &c(purchase, low, high), readings, 0, 150_000);
+            }
+            for unit in [[0, 300_000, 150_000], [100, 199_999, 100_000], [1001, 9_000_000, 4_500_000]] {
+                same_closings(unit, 1, &c(0, both, both), readings, 0, 0);
+            }
+            all.push(c(0, both, both));
+        }
+        let run = |f: fn([u32; 3], u32, &Closing, &[u16]) -> u64| {
+            let all = &all;
+            move |i: usize| {
+                black_box(f(black_box(unit), black_box(8), black_box(&all[i]), black_box(&periods[i])));
+            }
+        };
+        compare("eight closings", name, PERIODS, run(proved_closings), run(plain_closings));
+    }
+    // the record rule and the purchase, without the readings
+    same_closings(unit, 8, &c(1000, 0, 0), &[], 0, 150_000);
+    let run = |f: fn([u32; 3], u32, &Closing, &[u16]) -> u64| {
+        let c = c(1000, 0, 0);
+        move |_: usize| {
+            black_box(f(black_box(unit), black_box(8), black_box(&c), black_box(&[])));
+        }
+    };
+    compare("eight closings", "no readings: refused", 1000, run(proved_closings), run(plain_closings));
+}
+
+fn main() {
+    let mut random = Random(1);
+    let mut some = |f: fn(&mut Random) -> Vec<u16>| (0..PERIODS).map(|_| f(&mut random)).collect::<Vec<_>>();
+    let kinds = [("within 300 mHz", some(varied)), ("a slow walk", some(walk)), ("calm", some(calm))];
+    println!("{:14} {:30} {:>11} {:>11} {:>6}  {}", "work", "of", "Rattle, us", "Rust, us", "ratio", "middle half");
+    periods(&kinds);
+    closings(&kinds);
+    reports(&mut random);
+    term_checks(&mut random);
 }

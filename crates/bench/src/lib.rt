@@ -1,13 +1,16 @@
-// What the timing program in bench/ links: period energy over numbers, with the stock curves chosen at run time.
+// What the timing program in bench/ links: period energy over numbers, with the stock curves chosen at run time, and closings.
 ghost use mathlib.Core.Path.{_≡_};
-ghost use Rattle.bench.specs.Bench.{quantities, curveOf, curvesOf, periodNumber};
+ghost use Prim.Native.Nat.{_+_, _*_};
+ghost use Rattle.bench.specs.Bench.{quantities, curveOf, curvesOf, periodNumber, openedRecord, closings, recordNumber};
 use energy::curve::Curve;
 use energy::curve::Curves;
 use energy::curve::containment_curve;
 use energy::curve::regulation_curve;
 use energy::period::PeriodEnergy;
 use energy::period::period_energy;
+use ledger_record::Record;
 use terms::Quantities;
+use terms::Terms;
 
 fn curve_of(n: u32) -> Curve
     ensures { λ r. ⌜ r ≡ curveOf n ⌝ }
@@ -44,4 +47,58 @@ pub extern "C" fn bench_period(
         PeriodEnergy::Curve => 5,
         PeriodEnergy::Readings => 6,
     }
+}
+
+// A record just opened, for regulation alone; a blank one where opening refuses.
+fn opened_record(mw: u32, size: u32, first: u32) -> Record
+    ensures { λ r. ⌜ r ≡ openedRecord mw size first ⌝ }
+{
+    let q = Quantities {
+        dc: 0,
+        dm: 0,
+        dr: mw,
+    };
+    let t = Terms {
+        low: q,
+        high: q,
+        export_limit: 2_000_000,
+        import_limit: 2_000_000,
+    };
+    let curve = curve_of(2);
+    let curves = Curves {
+        dc: curve,
+        dm: curve,
+        dr: curve,
+    };
+    ledger_record::open_record(t, curves, size, first).record
+}
+
+// Two numbers as one.
+fn one_number(a: u32, b: u32) -> u64
+    ensures { λ r. ⌜ r ≡ a * 4294967296 + b ⌝ }
+{
+    a as u64 * 4294967296 + b as u64
+}
+
+// Opens a record and closes as many periods with the same arguments: the periods closed times 2^32, and the state.
+#[no_mangle]
+pub extern "C" fn bench_closings(
+    mw: u32,
+    size: u32,
+    first: u32,
+    count: u32,
+    purchase: i64,
+    readings: &[u16],
+    delivered: i64,
+    taken: i64,
+) -> u64
+    ensures { λ r. ⌜ r ≡ recordNumber (closings count (openedRecord mw size first) (record { purchase = purchase; readings = now (readings .entry); delivered = delivered; taken = taken })) ⌝ }
+{
+    let mut after = opened_record(mw, size, first);
+    let mut i: u32 = 0;
+    while i < count {
+        after = ledger::close_period(after, purchase, readings, delivered, taken).record;
+        i += 1;
+    }
+    one_number(after.closed, after.state)
 }
