@@ -189,6 +189,7 @@ fn table(table: &Table, direction: Direction, number: Int, tally: &mut Tally) ->
 }
 
 /// "Regulation, 100 MW: 49,985 gives 0 kW; 49,984 gives 541; 49,800 gives 100,000." "All 3,600 at 49,984: 271 kWh."
+/// The other energies follow from the kW.
 fn energy() -> Script {
     for (deviation, kw) in [(15, 0), (16, 541), (200, 100_000)] {
         printed(
