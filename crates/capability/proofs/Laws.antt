@@ -1,6 +1,6 @@
 -- What holds of every room: where the limits keep their rule, it is 0 to 4,000,000. Assumes nothing.
 use mathlib.Core.Path.{_≡_, refl, sym, subst}
-use mathlib.Core.Bool.{Bool, true, false, cond, _&&_, _||_, and-eq-true-iff}
+use mathlib.Core.Bool.{Bool, true, false, cond, _&&_, _||_}
 use mathlib.Core.List.{List, [], _∷_}
 use Prim.Native.Nat.{ℕ, _≤_}
 use native.Mathlib.Omega.{arith}
@@ -10,6 +10,7 @@ use lib.Signed.{leZ, _≤ℤ_, ≤ℤ-refl}
 use Rattle.common.specs.Lists.{every}
 use Rattle.signed.specs.Sign.{above, within}
 use Rattle.signed.proofs.Whole.{whole, less, same, ≤-read, one-sided}
+use Rattle.common.proofs.Tests.{both-true}
 use Rattle.capability.specs.Capability.{inRange, limitsRule, wholeRange, headroom, footroom, roomOf}
 use Rattle.capability.specs.declared.Limits.{Limits}
 
@@ -17,7 +18,7 @@ use Rattle.capability.specs.declared.Limits.{Limits}
 
 every-both : {A : Type 0} (holds : A → Bool) (x : A) (xs : List A) → every holds (x ∷ xs) ≡ true → (holds x ≡ true) × (every holds xs ≡ true)
 unfolding every
-every-both holds x xs = and-eq-true-iff (holds x) (every holds xs) .0
+every-both holds x xs = both-true (holds x) (every holds xs)
 
 at-most : {a b : ℤ} → leZ a b ≡ true → a ≤ℤ b
 at-most e = record { le = subst T (sym e) tt }
@@ -28,7 +29,7 @@ record Between (low z high : ℤ) : Type 0 where
 
 between : (low z high : ℤ) → within low z high ≡ true → Between low z high
 between low z high e =
-    let b = and-eq-true-iff (leZ low z) (leZ z high) .0 e in
+    let b = both-true (leZ low z) (leZ z high) e in
     record { from = at-most (b .0); to = at-most (b .1) }
 
 record Kept (l : Limits) : Type 0 where
@@ -48,11 +49,11 @@ kept l rule =
     let b = leZ (l .sil) (pos 0) in
     let c = leZ (pos 0) (l .sel) in
     let d = leZ (l .sel) (l .mel) in
-    let to-ol = and-eq-true-iff (ranges && a && b && c && d) (within (l .mil) (l .ol) (l .mel)) .0 rule in
-    let to-d = and-eq-true-iff (ranges && a && b && c) d .0 (to-ol .0) in
-    let to-c = and-eq-true-iff (ranges && a && b) c .0 (to-d .0) in
-    let to-b = and-eq-true-iff (ranges && a) b .0 (to-c .0) in
-    let to-a = and-eq-true-iff ranges a .0 (to-b .0) in
+    let to-ol = both-true (ranges && a && b && c && d) (within (l .mil) (l .ol) (l .mel)) rule in
+    let to-d = both-true (ranges && a && b && c) d (to-ol .0) in
+    let to-c = both-true (ranges && a && b) c (to-d .0) in
+    let to-b = both-true (ranges && a) b (to-c .0) in
+    let to-a = both-true ranges a (to-b .0) in
     let mil = every-both inRange _ _ (to-a .0) in
     let sil = every-both inRange _ _ (mil .1) in
     let sel = every-both inRange _ _ (sil .1) in

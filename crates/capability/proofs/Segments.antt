@@ -1,16 +1,19 @@
 -- The segment of a room, and the loop of `capability_of` that looks for it. Assumes nothing.
 use mathlib.Core.Path.{_≡_, _∙_}
-use mathlib.Core.Bool.{true, _&&_, and-eq-true-iff}
+use mathlib.Core.Bool.{true, _&&_}
 use mathlib.Core.List.{List, [], _∷_}
 use Prim.Native.Nat.{ℕ, _+_, _≤_, _<_}
 use native.Mathlib.Omega.{arith}
 use borrow.Author.Tests.{le-leb, lt-leb, leb-true, ltb-true, eqb-true}
 use lib.Dec.{leb, ltb, eqb}
 use lib.ListN.{length, take}
-use Rattle.capability.specs.Capability.{pointsOf, pointInRange, rises, risesFrom, listRule, pointsRule, line, capabilityFrom, capabilityAt}
+use Rattle.common.specs.Lists.{chain}
+use Rattle.common.proofs.Chains.{rest, next, none-left, link, onward, first-holds}
+use Rattle.common.proofs.Tests.{both-true}
+use Rattle.capability.specs.Capability.{pointsOf, pointInRange, rises, listRule, pointsRule, line, capabilityFrom, capabilityAt}
 use Rattle.capability.specs.declared.Point.{Point}
 use Rattle.capability.specs.declared.Points.{Points}
-use Rattle.capability.proofs.Rising.{at, rest, next, none-left, count-range}
+use Rattle.capability.proofs.Rising.{blank, at, count-range}
 
 -- ---- what the rule says of two points that follow each other, before the points ps
 
@@ -19,26 +22,19 @@ pub record Segment (p q : Point) (ps : List Point) : Type 0 where
   pub no-less : p .capability ≤ q .capability
   pub room-most : q .room ≤ 4000000
   pub capability-most : q .capability ≤ 4000000
-  pub onward : risesFrom q ps ≡ true
+  pub onward : chain pointInRange rises q ps ≡ true
 
-first-test : (p : Point) (ps : List Point) → risesFrom p ps ≡ true → pointInRange p ≡ true
-unfolding risesFrom
-first-test p [] e = e
-first-test p (q ∷ ps) e = and-eq-true-iff (pointInRange p) (rises p q) .0 (and-eq-true-iff (pointInRange p && rises p q) (risesFrom q ps) .0 e .0) .0
-
-segment : (p q : Point) (ps : List Point) → risesFrom p (q ∷ ps) ≡ true → Segment p q ps
-unfolding risesFrom
+segment : (p q : Point) (ps : List Point) → chain pointInRange rises p (q ∷ ps) ≡ true → Segment p q ps
 segment p q ps e =
-    let tests = and-eq-true-iff (pointInRange p && rises p q) (risesFrom q ps) .0 e in
-    let rise = and-eq-true-iff (pointInRange p) (rises p q) .0 (tests .0) in
-    let higher = and-eq-true-iff (ltb (p .room) (q .room)) (leb (p .capability) (q .capability)) .0 (rise .1) in
-    let range = and-eq-true-iff (leb (q .room) 4000000) (leb (q .capability) 4000000) .0 (first-test q ps (tests .1)) in
+    let rest-rises = onward pointInRange rises p q ps e in
+    let higher = both-true (ltb (p .room) (q .room)) (leb (p .capability) (q .capability)) (link pointInRange rises p q ps e) in
+    let range = both-true (leb (q .room) 4000000) (leb (q .capability) 4000000) (first-holds pointInRange rises q ps rest-rises) in
     record {
       farther = ltb-true _ _ (higher .0);
       no-less = leb-true _ _ (higher .1);
       room-most = leb-true _ _ (range .0);
       capability-most = leb-true _ _ (range .1);
-      onward = tests .1;
+      onward = rest-rises;
     }
 
 -- ---- the loop: the room is past the point p, and the points from q on decide
@@ -59,7 +55,7 @@ module _ (count : ℕ) (points : List Point) (room : ℕ) where
 
     module _ (h : i < count) where
       there : rest count points i ≡ at points i ∷ rest count points (i + 1)
-      there = next count points i h (omega arith)
+      there = next count points i blank h (omega arith)
 
       pub here : room ≤ q .room → capabilityAt (take count points) room ≡ line p q room
       unfolding capabilityFrom
@@ -82,11 +78,11 @@ unfolding pointsRule
 begin ps room rule long =
     let n = ps .count in
     let points = ps .points in
-    let parts = and-eq-true-iff (leb 2 n && leb n 5) (listRule (pointsOf ps)) .0 rule in
+    let parts = both-true (leb 2 n && leb n 5) (listRule (pointsOf ps)) rule in
     let b = count-range n (parts .0) in
-    let first : rest n points 0 ≡ at points 0 ∷ rest n points 1 = next n points 0 (omega arith) (omega arith) in
-    let second : rest n points 1 ≡ at points 1 ∷ rest n points 2 = next n points 1 (omega arith) (omega arith) in
-    let tests = and-eq-true-iff (eqb (at points 0 .room) 0) (risesFrom (at points 0) (at points 1 ∷ rest n points 2)) .0 (rw (first, second) at (parts .1)) in
+    let first : rest n points 0 ≡ at points 0 ∷ rest n points 1 = next n points 0 blank (omega arith) (omega arith) in
+    let second : rest n points 1 ≡ at points 1 ∷ rest n points 2 = next n points 1 blank (omega arith) (omega arith) in
+    let tests = both-true (eqb (at points 0 .room) 0) (chain pointInRange rises (at points 0) (at points 1 ∷ rest n points 2)) (rw (first, second) at (parts .1)) in
     record {
       within = b .0;
       most = b .1;

@@ -8,7 +8,7 @@ use lib.ListN.{take}
 use lib.Signed.{leZ}
 use Rattle.common.specs.Answer.{Answer, refused, given, cause, checked}
 use Rattle.common.specs.Fraction.{Fraction, whole, onLine, roundedDown}
-use Rattle.common.specs.Lists.{every}
+use Rattle.common.specs.Lists.{every, chain}
 use Rattle.signed.specs.Sign.{above, eqZ, within}
 use Rattle.capability.specs.declared.Limits.{Limits}
 use Rattle.capability.specs.declared.Point.{Point}
@@ -69,15 +69,10 @@ pointInRange p = leb (p .room) 4000000 && leb (p .capability) 4000000
 abbrev pub rises : Point → Point → Bool
 rises p q = ltb (p .room) (q .room) && leb (p .capability) (q .capability)
 
--- from the point p on, each is in range and rises to the next
-unfoldable pub risesFrom : Point → List Point → Bool
-risesFrom p [] = pointInRange p
-risesFrom p (q ∷ ps) = pointInRange p && rises p q && risesFrom q ps
-
 -- first room 0
 abbrev pub listRule : List Point → Bool
 listRule [] = false
-listRule (p ∷ ps) = eqb (p .room) 0 && risesFrom p ps
+listRule (p ∷ ps) = eqb (p .room) 0 && chain pointInRange rises p ps
 
 -- there are 2 to 5 points
 unfoldable pub pointsRule : Points → Bool

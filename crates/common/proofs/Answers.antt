@@ -30,6 +30,12 @@ module _ {A : Type 0} where
   pub given-clear : (causes : List Cause) (a b : A) → checked causes a ≡ given b → clear causes ≡ true
   given-clear causes a b e = sym (given-is causes a) ∙ ap isGiven e
 
+  pub given-value : (causes : List Cause) (a b : A) → checked causes a ≡ given b → a ≡ b
+  given-value causes a b e = same (sym (clear-given causes a (given-clear causes a b e)) ∙ e)
+    where
+      same : given a ≡ given b → a ≡ b
+      same g = cc
+
   -- what is handed back beside the answer
   pub orBlank-is : (blank : A) (causes : List Cause) (a : A) → orBlank blank (checked causes a) ≡ cond (clear causes) a blank
   orBlank-is blank [] a = refl

@@ -1,4 +1,5 @@
 pub mod Answers
+pub mod Chains
 pub mod Lists
 pub mod Periods
 pub mod Tests

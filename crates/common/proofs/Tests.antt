@@ -1,6 +1,6 @@
 -- Tests of numbers, and two tests together. Assumes nothing.
 use mathlib.Core.Path.{_≡_, refl}
-use mathlib.Core.Bool.{Bool, true, false, not, _&&_, _||_}
+use mathlib.Core.Bool.{Bool, true, false, not, _&&_, _||_, and-eq-true-iff}
 use Prim.Native.Nat.{ℕ, _≤_}
 use native.Mathlib.Omega.{arith}
 use native.Mathlib.Decide.{decLe}
@@ -19,8 +19,7 @@ not-not true = refl
 not-not false = refl
 
 pub both-true : (a b : Bool) → a && b ≡ true → (a ≡ true) × (b ≡ true)
-both-true true b e = (refl, e)
-both-true false b e = let o : _≡_ {A = ℕ} 0 1 = cc in absurd (omega arith)
+both-true a b = and-eq-true-iff a b .0
 
 pub neither : (a b : Bool) → a || b ≡ false → (a ≡ false) × (b ≡ false)
 neither true b e = let o : _≡_ {A = ℕ} 0 1 = cc in absurd (omega arith)

@@ -12,6 +12,11 @@ abbrev pub isGiven : {A : Type 0} → Answer A → Bool
 isGiven (refused number) = false
 isGiven (given a) = true
 
+-- a refusal's number, 0 where a value is given
+abbrev pub numberOf : {A : Type 0} → Answer A → ℕ
+numberOf (refused number) = number
+numberOf (given a) = 0
+
 -- a refusal's number, and whether its cause holds
 pub record Cause : Type 0 where
   pub number : ℕ

@@ -14,3 +14,8 @@ every holds (x ∷ xs) = holds x && every holds xs
 unfoldable pub some : {A : Type 0} → (A → Bool) → List A → Bool
 some holds [] = false
 some holds (x ∷ xs) = holds x || some holds xs
+
+-- from x on, each entry passes the test and is linked to the next
+unfoldable pub chain : {A : Type 0} → (A → Bool) → (A → A → Bool) → A → List A → Bool
+chain holds linked x [] = holds x
+chain holds linked x (y ∷ ys) = holds x && linked x y && chain holds linked y ys

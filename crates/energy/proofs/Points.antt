@@ -4,17 +4,17 @@ use mathlib.Core.Bool.{true, false, _&&_}
 use mathlib.Core.List.{List, [], _∷_}
 use Prim.Native.Nat.{ℕ, _+_, _*_, _≤_, _<_}
 use native.Mathlib.Nat.{mul-zero, zero-mul}
-use native.Mathlib.Numerals.{add-one}
 use native.Mathlib.Omega.{arith}
 use borrow.Author.Tests.{le-leb, lt-leb, eq-eqb, ne-eqb, lt-ltb, le-ltb, leb-true, ltb-true}
 use lib.Dec.{leb, eqb}
-use lib.ListN.{length, drop, getD, length-take, drop-of-length-le}
-use lib.Seq.{drop-cons, getD-take}
-use Rattle.energy.specs.Curve.{blank, pointsOf, inRange, rises, risesFrom, pointsRule, curveRule, between, shareFrom, shareAt, responseTo, response}
+use lib.ListN.{length, drop, getD}
+use Rattle.common.specs.Lists.{chain}
+use Rattle.common.proofs.Chains.{next, none-left, link, onward, first-holds}
+use Rattle.common.proofs.Tests.{both-true}
+use Rattle.energy.specs.Curve.{blank, pointsOf, inRange, rises, pointsRule, curveRule, between, shareFrom, shareAt, responseTo, response}
 use Rattle.energy.specs.declared.curve.Point.{Point}
 use Rattle.energy.specs.declared.curve.Curve.{Curve}
 use Rattle.energy.proofs.Rounding.{up-zero, up-one}
-use Rattle.common.proofs.Tests.{both-true}
 
 -- ---- what the rule says
 
@@ -31,38 +31,28 @@ in-range p e =
     let b = both-true _ _ e in
     record { deviation-le = leb-true _ _ (b .0); share-le = leb-true _ _ (b .1) }
 
-pub range : (p : Point) (ps : List Point) → risesFrom p ps ≡ true → InRange p
-unfolding risesFrom
-range p [] e = in-range p e
-range p (q ∷ ps) e = in-range p (both-true (inRange p) (rises p q) (both-true (inRange p && rises p q) (risesFrom q ps) e .0) .0)
+pub range : (p : Point) (ps : List Point) → chain inRange rises p ps ≡ true → InRange p
+range p ps e = in-range p (first-holds inRange rises p ps e)
 
-pub rises-next : (p q : Point) (ps : List Point) → risesFrom p (q ∷ ps) ≡ true → Rises p q
-unfolding risesFrom
-rises-next p q ps e =
-    let b = both-true _ _ (both-true (inRange p) (rises p q) (both-true (inRange p && rises p q) (risesFrom q ps) e .0) .1) in
-    record { farther = ltb-true _ _ (b .0); no-less = leb-true _ _ (b .1) }
+module _ (p q : Point) (ps : List Point) (e : chain inRange rises p (q ∷ ps) ≡ true) where
+  pub rises-next : Rises p q
+  rises-next =
+      let b = both-true _ _ (link inRange rises p q ps e) in
+      record { farther = ltb-true _ _ (b .0); no-less = leb-true _ _ (b .1) }
 
-pub rule-next : (p q : Point) (ps : List Point) → risesFrom p (q ∷ ps) ≡ true → risesFrom q ps ≡ true
-unfolding risesFrom
-rule-next p q ps e = both-true (inRange p && rises p q) (risesFrom q ps) e .1
+  pub rule-next : chain inRange rises q ps ≡ true
+  rule-next = onward inRange rises p q ps e
 
 module _ (c : Curve) where
   abbrev pub at : ℕ → Point
   at i = getD (c .points) i blank
 
   -- the points from the i-th on
-  abbrev pub rest : ℕ → List Point
+  abbrev rest : ℕ → List Point
   rest i = drop i (pointsOf c)
 
-  next : (i : ℕ) → i < c .count → c .count ≤ length (c .points) → rest i ≡ at i ∷ rest (i + 1)
-  next i h long =
-      let b : i < length (pointsOf c) = simp length-take (omega arith) in
-      rw (add-one i, drop-cons (pointsOf c) i blank b, getD-take (c .count) (c .points) i blank h)
-
-  pub none-left : (i : ℕ) → c .count ≤ i → rest i ≡ []
-  none-left i h =
-      let l : length (pointsOf c) ≤ i = simp length-take (omega arith) in
-      drop-of-length-le (pointsOf c) l
+  first : 2 ≤ c .count → c .count ≤ length (c .points) → rest 0 ≡ at 0 ∷ rest 1
+  first few long = next (c .count) (c .points) 0 blank (omega arith) long
 
   pub counted : curveRule c ≡ true → (2 ≤ c .count) × (c .count ≤ 5)
   unfolding curveRule
@@ -87,32 +77,18 @@ module _ (c : Curve) where
   module _ (few : 2 ≤ c .count) (many : c .count ≤ 5) (long : c .count ≤ length (c .points)) where
     pub first-above : (at 0 .share ≡ 0 → ⊥) → curveRule c ≡ false
     unfolding curveRule
-    first-above h = rw (le-leb 2 (c .count) few, le-leb (c .count) 5 many, next 0 (omega arith) long, ne-eqb (at 0 .share) 0 h)
+    first-above h = rw (le-leb 2 (c .count) few, le-leb (c .count) 5 many, first few long, ne-eqb (at 0 .share) 0 h)
 
-    pub begin : at 0 .share ≡ 0 → curveRule c ≡ risesFrom (at 0) (rest 1)
+    pub begin : at 0 .share ≡ 0 → curveRule c ≡ chain inRange rises (at 0) (rest 1)
     unfolding curveRule
-    begin h = rw (le-leb 2 (c .count) few, le-leb (c .count) 5 many, next 0 (omega arith) long, eq-eqb (at 0 .share) 0 h)
-
-  module _ (last : Point) (i : ℕ) (so-far : curveRule c ≡ risesFrom last (rest i)) where
-    module _ (h : i < c .count) (long : c .count ≤ length (c .points)) where
-      pub stops : (inRange last && rises last (at i)) ≡ false → curveRule c ≡ false
-      unfolding risesFrom
-      stops bad = so-far ∙ (rw (next i h long, bad))
-
-      pub goes-on : (inRange last && rises last (at i)) ≡ true → curveRule c ≡ risesFrom (at i) (rest (i + 1))
-      unfolding risesFrom
-      goes-on good = so-far ∙ (rw (next i h long, good))
-
-    pub ends : c .count ≤ i → curveRule c ≡ inRange last
-    unfolding risesFrom
-    ends h = so-far ∙ (rw (none-left i h))
+    begin h = rw (le-leb 2 (c .count) few, le-leb (c .count) 5 many, first few long, eq-eqb (at 0 .share) 0 h)
 
   -- ---- the loop of `respond`: the deviation is past the point `last`, and the points from the i-th on decide
 
   module _ (mw d : ℕ) where
     pub record Reached (last : Point) (i : ℕ) : Type 0 where
       pub within : i ≤ c .count
-      pub rule : risesFrom last (rest i) ≡ true
+      pub rule : chain inRange rises last (rest i) ≡ true
       pub past : last .deviation ≤ d
       pub same : response mw c d ≡ responseTo mw (shareFrom last (rest i) d)
 
@@ -120,9 +96,9 @@ module _ (c : Curve) where
     unfolding response
     no-quantity h = rw (h, zero-mul (shareAt (pointsOf c) d .numerator)) (up-zero (shareAt (pointsOf c) d .denominator))
 
-    module _ (rule : curveRule c ≡ true) (long : c .count ≤ length (c .points)) (p : Point) (first : p ≡ at 0) where
+    module _ (rule : curveRule c ≡ true) (long : c .count ≤ length (c .points)) (p : Point) (found : p ≡ at 0) where
       starting : rest 0 ≡ p ∷ rest 1
-      starting = rw first (next 0 (omega (arith, counted rule)) long)
+      starting = rw found (first (counted rule .0) long)
 
       started : pointsRule (p ∷ rest 1) ≡ true
       started = subst (λ (ps : List Point). pointsRule ps ≡ true) starting (ruled rule)
@@ -136,7 +112,7 @@ module _ (c : Curve) where
       reach h =
           record {
             within = omega (arith, counted rule);
-            rule = both-true (eqb (p .share) 0) (risesFrom p (rest 1)) started .1;
+            rule = both-true (eqb (p .share) 0) (chain inRange rises p (rest 1)) started .1;
             past = h;
             same = rw (starting, le-ltb d (p .deviation) h);
           }
@@ -147,14 +123,14 @@ module _ (c : Curve) where
 
       pub flat : c .count ≤ i → response mw c d ≡ mw * last .share
       unfolding shareFrom
-      flat h = r .same ∙ (rw (none-left i h) (up-one (mw * last .share)))
+      flat h = r .same ∙ (rw (none-left (c .count) (c .points) i h) (up-one (mw * last .share)))
 
       module _ (h : i < c .count) (long : c .count ≤ length (c .points)) (q : Point) (found : q ≡ at i) where
         following : rest i ≡ q ∷ rest (i + 1)
-        following = rw found (next i h long)
+        following = rw found (next (c .count) (c .points) i blank h long)
 
-        rule-there : risesFrom last (q ∷ rest (i + 1)) ≡ true
-        rule-there = subst (λ (ps : List Point). risesFrom last ps ≡ true) following (r .rule)
+        rule-there : chain inRange rises last (q ∷ rest (i + 1)) ≡ true
+        rule-there = subst (λ (ps : List Point). chain inRange rises last ps ≡ true) following (r .rule)
 
         pub next-rises : Rises last q
         next-rises = rises-next last q (rest (i + 1)) rule-there

@@ -10,8 +10,9 @@ use borrow.Author.Tests.{lt-ltb, le-ltb, ltb-true, ltb-false, eqb-true}
 use lib.Dec.{ltb, eqb}
 use lib.ListN.{length, getD}
 use Rattle.common.specs.Fraction.{Fraction, whole}
+use Rattle.common.specs.Lists.{chain}
 use Rattle.common.proofs.Tests.{both-true}
-use Rattle.energy.specs.Curve.{blank, between, shareFrom, shareAt, responseTo, response, risesFrom, pointsRule, pointsOf, curveRule}
+use Rattle.energy.specs.Curve.{blank, between, shareFrom, shareAt, responseTo, response, inRange, rises, pointsRule, pointsOf, curveRule}
 use Rattle.energy.specs.declared.curve.Point.{Point}
 use Rattle.energy.specs.declared.curve.Curve.{Curve}
 use Rattle.energy.proofs.Points.{InRange, Rises, range, rises-next, rule-next, ruled}
@@ -49,7 +50,7 @@ share-between p q d r i h l =
       at-most = line-le (p .share) (q .share) (q .deviation - p .deviation) (d - p .deviation) (r .no-less) (i .share-le) (omega arith);
     }
 
-share-from : (p : Point) (ps : List Point) (d : ℕ) → risesFrom p ps ≡ true → p .deviation ≤ d → Share (shareFrom p ps d)
+share-from : (p : Point) (ps : List Point) (d : ℕ) → chain inRange rises p ps ≡ true → p .deviation ≤ d → Share (shareFrom p ps d)
 unfolding shareFrom
 share-from p [] d e h = let i = range p [] e in record { positive = omega arith; at-most = omega arith }
 share-from p (q ∷ ps) d e h =
@@ -61,7 +62,7 @@ share-at : (ps : List Point) (d : ℕ) → pointsRule ps ≡ true → Share (sha
 share-at [] d e = absurd (false≢true e)
 share-at (p ∷ ps) d e =
     by-test Share (ltb d (p .deviation)) (whole 0) (shareFrom p ps d) (λ t. record { positive = omega arith; at-most = omega arith })
-    (λ t. share-from p ps d (both-true (eqb (p .share) 0) (risesFrom p ps) e .1) (ltb-false d (p .deviation) t))
+    (λ t. share-from p ps d (both-true (eqb (p .share) 0) (chain inRange rises p ps) e .1) (ltb-false d (p .deviation) t))
 
 -- ---- the share at deviation 0
 
@@ -70,7 +71,7 @@ between-zero p q h =
     let past : 0 - p .deviation ≡ 0 = omega arith in
     rw (h, past, zero-mul (q .deviation - p .deviation), mul-zero (q .share - 0))
 
-from-zero : (p : Point) (ps : List Point) → p .share ≡ 0 → risesFrom p ps ≡ true → shareFrom p ps 0 .numerator ≡ 0
+from-zero : (p : Point) (ps : List Point) → p .share ≡ 0 → chain inRange rises p ps ≡ true → shareFrom p ps 0 .numerator ≡ 0
 unfolding shareFrom
 from-zero p [] h e = h
 from-zero p (q ∷ ps) h e =
@@ -81,14 +82,14 @@ from-zero p (q ∷ ps) h e =
 at-zero : (ps : List Point) → pointsRule ps ≡ true → shareAt ps 0 .numerator ≡ 0
 at-zero [] e = refl
 at-zero (p ∷ ps) e =
-    let b = both-true (eqb (p .share) 0) (risesFrom p ps) e in
+    let b = both-true (eqb (p .share) 0) (chain inRange rises p ps) e in
     by-test (λ (f : Fraction). f .numerator ≡ 0) (ltb 0 (p .deviation)) (whole 0) (shareFrom p ps 0) (λ t. refl)
     (λ t. from-zero p ps (eqb-true (p .share) 0 (b .0)) (b .1))
 
 -- ---- the response at a point
 
 -- no point stands before the first
-first-least : (p : Point) (ps : List Point) (i : ℕ) → risesFrom p ps ≡ true → i < length (p ∷ ps) → p .deviation ≤ getD (p ∷ ps) i blank .deviation
+first-least : (p : Point) (ps : List Point) (i : ℕ) → chain inRange rises p ps ≡ true → i < length (p ∷ ps) → p .deviation ≤ getD (p ∷ ps) i blank .deviation
 first-least p ps zero e h = omega arith
 first-least p [] (suc i) e h = absurd (omega arith)
 first-least p (q ∷ ps) (suc i) e h =
@@ -100,7 +101,7 @@ between-point mw p q h =
     let w = q .deviation - p .deviation in
     rw (sub-self (p .deviation), mul-zero (q .share - p .share), add-zero (p .share * w), ← mul-assoc mw (p .share) w) (up-exact (mw * p .share) w (omega arith))
 
-from-point : (mw : ℕ) (p : Point) (ps : List Point) (i : ℕ) → risesFrom p ps ≡ true → i < length (p ∷ ps) →
+from-point : (mw : ℕ) (p : Point) (ps : List Point) (i : ℕ) → chain inRange rises p ps ≡ true → i < length (p ∷ ps) →
     let r = getD (p ∷ ps) i blank in
     responseTo mw (shareFrom p ps (r .deviation)) ≡ mw * r .share
 unfolding shareFrom
@@ -118,7 +119,7 @@ pub at-point : (mw : ℕ) (ps : List Point) (i : ℕ) → pointsRule ps ≡ true
     responseTo mw (shareAt ps (r .deviation)) ≡ mw * r .share
 at-point mw [] i e h = absurd (false≢true e)
 at-point mw (p ∷ ps) i e h =
-    let f = both-true (eqb (p .share) 0) (risesFrom p ps) e .1 in
+    let f = both-true (eqb (p .share) 0) (chain inRange rises p ps) e .1 in
     rw (le-ltb (getD (p ∷ ps) i blank .deviation) (p .deviation) (first-least p ps i f h)) (from-point mw p ps i f h)
 
 -- ---- responses

@@ -6,8 +6,8 @@ use mathlib.Core.List.{List, [], _∷_, _++_, map}
 use Prim.Native.Nat.{ℕ, _*_}
 use lib.IntN.{ℤ, pos, negℤ}
 use lib.ListN.{drop}
-use Rattle.common.specs.Answer.{Answer, refused, given, orBlank}
-use Rattle.common.specs.Lists.{sum, every, some}
+use Rattle.common.specs.Answer.{numberOf, orBlank}
+use Rattle.common.specs.Lists.{sum, every, some, chain}
 use Rattle.common.specs.Periods.{periodsTo}
 use Rattle.terms.specs.declared.Quantities.{Quantities}
 use Rattle.terms.specs.Terms.{REV, ER, limitsBroken}
@@ -15,11 +15,11 @@ use Rattle.requirement.specs.declared.Row.{Row as Requirement}
 use Rattle.requirement.specs.Requirement.{left, sched, back, start, end, rowOf, tableOf}
 use Rattle.monitor.specs.declared.Row.{Row}
 use Rattle.monitor.specs.Monitor.{rowsOf, monitoring}
-use Rattle.energy.specs.Curve.{regulationCurve, risesFrom as curveRisesFrom, curveRule, curvesRule, shareFrom, response}
+use Rattle.energy.specs.Curve.{regulationCurve, curveRule, curvesRule, shareFrom, response}
 use Rattle.energy.specs.Period.{lowDeviation}
 use Rattle.capability.specs.declared.Point.{Point}
 use Rattle.capability.specs.declared.Points.{Points}
-use Rattle.capability.specs.Capability.{risesFrom, pointsRule, capabilityFrom, capabilityOf, capabilityAnswer}
+use Rattle.capability.specs.Capability.{pointsRule, capabilityFrom, capabilityOf, capabilityAnswer}
 use Rattle.ledger_record.specs.declared.Record.{Record}
 use Rattle.ledger_record.specs.Opening.{openingCauses, blankRecord, opening}
 use Rattle.ledger_record.specs.Rule.{startAt, schedAt, backAt, entryRule, entriesRule, totalsRule, stateRule, recordRule}
@@ -84,11 +84,6 @@ fullBattery =
     (record { dc = regulationCurve; dm = regulationCurve; dr = regulationCurve })
     100000 100000)
 
--- a refusal's number, and 0 for none
-number : Answer Unit → ℤ
-number (refused n) = pos n
-number (given a) = pos 0
-
 -- ---- the list
 
 starred : List Example
@@ -144,10 +139,10 @@ starred =
     -- 100 MW DR low only, size and state 100,000: p = 0 accepted, 1 and −1 refused
     ∷ record {
       printed = nat (0 ∷ 8 ∷ 8 ∷ []) ∷ [];
-      given = map (λ (p : ℤ). number (checking fullBattery p)) (pos 0 ∷ pos 1 ∷ negℤ (pos 1) ∷ []) ∷ [];
+      given = nat (map (λ (p : ℤ). numberOf (checking fullBattery p)) (pos 0 ∷ pos 1 ∷ negℤ (pos 1) ∷ [])) ∷ [];
     }
     ∷ []
 
 starred-hold : map (λ (x : Example). x .given) starred ≡ map (λ (x : Example). x .printed) starred
-unfolding starred volumes containment regulation line bit nat highTable point lowPoints highPoints capabilities fullBattery number left sched back start end rowOf periodsTo tableOf rowsOf monitoring some every sum shareFrom response curveRisesFrom curveRule curvesRule limitsBroken openingCauses opening startAt schedAt backAt entryRule entriesRule totalsRule stateRule recordRule unusable need accepts checking risesFrom pointsRule capabilityFrom capabilityOf capabilityAnswer
+unfolding starred volumes containment regulation line bit nat highTable point lowPoints highPoints capabilities fullBattery left sched back start end rowOf periodsTo tableOf rowsOf monitoring some every sum shareFrom response chain curveRule curvesRule limitsBroken openingCauses opening startAt schedAt backAt entryRule entriesRule totalsRule stateRule recordRule unusable need accepts checking pointsRule capabilityFrom capabilityOf capabilityAnswer
 starred-hold = refl

@@ -96,11 +96,11 @@ module _ (t : Terms) (curves : Curves) (size first : ℕ) (no-number : clear (op
       record {
         bought-most = omega (arith, whole, v .in-size, w .bought-most, fits .size-most, one-sided p, total-next bought h c);
         sold-most = omega (arith, whole, v .in-size, w .sold-most, fits .size-most, one-sided p, total-next sold h c);
-        delivered-most = omega (arith, whole, o .delivered-most, w .delivered-most, one-sided (c .delivered), total-next delivered h c, total-next (λ (c : Closing). b .low .bound (c .readings)) h c);
-        taken-most = omega (arith, whole, o .taken-most, w .taken-most, one-sided (c .taken), total-next taken h c, total-next (λ (c : Closing). b .high .bound (c .readings)) h c);
-        low-bounds = rw map-append (most-next (500 * Q (t .low)) (bounds (b .low) h) (b .low .bound (c .readings)) (w .low-bounds) (bound-most (t .low) curves (fits .curves-hold) lowDeviation (c .readings) (o .good)));
-        high-bounds = rw map-append (most-next (500 * Q (t .high)) (bounds (b .high) h) (b .high .bound (c .readings)) (w .high-bounds) (bound-most (t .high) curves (fits .curves-hold) highDeviation (c .readings) (o .good)));
-        adds-up = omega (arith, whole, o .delivered-least, o .taken-least, w .adds-up, new-is b h c, ap above is, ap below is, one-sided (c .delivered), one-sided (c .taken), total-next bought h c, total-next sold h c, total-next delivered h c, total-next taken h c);
+        delivered-most = omega (arith, whole, o .possible .delivered-most, w .delivered-most, one-sided (c .delivered), total-next delivered h c, total-next (λ (c : Closing). b .low .bound (c .readings)) h c);
+        taken-most = omega (arith, whole, o .possible .taken-most, w .taken-most, one-sided (c .taken), total-next taken h c, total-next (λ (c : Closing). b .high .bound (c .readings)) h c);
+        low-bounds = rw map-append (most-next (500 * Q (t .low)) (bounds (b .low) h) (b .low .bound (c .readings)) (w .low-bounds) (bound-most (t .low) curves (fits .curves-hold) lowDeviation (c .readings) (o .possible .good)));
+        high-bounds = rw map-append (most-next (500 * Q (t .high)) (bounds (b .high) h) (b .high .bound (c .readings)) (w .high-bounds) (bound-most (t .high) curves (fits .curves-hold) highDeviation (c .readings) (o .possible .good)));
+        adds-up = omega (arith, whole, o .possible .delivered-least, o .possible .taken-least, w .adds-up, new-is b h c, ap above is, ap below is, one-sided (c .delivered), one-sided (c .taken), total-next bought h c, total-next sold h c, total-next delivered h c, total-next taken h c);
       }
 
   module _ (h : History) (v : Passes b h) where

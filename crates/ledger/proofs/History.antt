@@ -15,7 +15,7 @@ use Rattle.signed.proofs.Whole.{whole, one-sided, abs-is, sum, less, neg, same}
 use Rattle.signed.proofs.Orders.{ltZ-true, ltZ-false, within-true, true-within, within-false}
 use Rattle.requirement.specs.Requirement.{start}
 use Rattle.ledger.specs.Calls.{Closing, newState, toward, settles}
-use Rattle.ledger.specs.Promise.{History, Battery, extend, startAfter, needAfter, stateAfter, InSize, OutOfSize, Outcome, ending, Fails, NoCause}
+use Rattle.ledger.specs.Promise.{History, Battery, extend, startAfter, needAfter, stateAfter, InSize, OutOfSize, Possible, Outcome, ending, Fails, NoCause}
 use Rattle.ledger.proofs.Directions.{need, need-is, need-most, back-most, start-next}
 
 module _ (b : Battery) where
@@ -102,8 +102,7 @@ module _ (b : Battery) where
 
   -- ---- an accepted purchase: whatever the outcome, the next state passes both directions
   module _ (h : History) (c : Closing) (accepted : accepts h (c .purchase) ≡ true)
-      (d₀ : pos 0 ≤ℤ c .delivered) (d₁ : c .delivered ≤ℤ pos (b .low .bound (c .readings)))
-      (t₀ : pos 0 ≤ℤ c .taken) (t₁ : c .taken ≤ℤ pos (b .high .bound (c .readings))) where
+      (x : Possible b (c .readings) (c .delivered) (c .taken)) where
     low-safe : startAfter (b .low) (extend h c) ≤ℤ newState (stateAfter b h) c
     low-safe = omega (arith, whole, accepts-true h (c .purchase) accepted, new-is h c, start-next (b .low) h c)
 
@@ -112,10 +111,10 @@ module _ (b : Battery) where
 
   pub safe : (h : History) (p : ℤ) → accepts h p ≡ true → (o : Outcome b) → ¬ Fails b h (ending b p o)
   safe h p e o (inl f) =
-      let l = low-safe h (ending b p o) e (o .delivered-least) (o .delivered-most) (o .taken-least) (o .taken-most) in
+      let l = low-safe h (ending b p o) e (o .possible) in
       omega (arith, whole)
   safe h p e o (inr f) =
-      let l = high-safe h (ending b p o) e (o .delivered-least) (o .delivered-most) (o .taken-least) (o .taken-most) in
+      let l = high-safe h (ending b p o) e (o .possible) in
       omega (arith, whole)
 
   -- ---- what every history keeps
@@ -140,8 +139,8 @@ module _ (b : Battery) where
       let e = true-within (floor h) (stateAfter b h +ℤ c .purchase) (ceiling h) (x .floor) (x .ceiling) in
       record {
         eight = omega (arith, x .before-eight, v .eight, length-append h (c ∷ []));
-        low-passes = rw (state-next h c) (low-safe h c e (x .delivered-least) (x .delivered-most) (x .taken-least) (x .taken-most));
-        high-passes = rw (state-next h c) (high-safe h c e (x .delivered-least) (x .delivered-most) (x .taken-least) (x .taken-most));
+        low-passes = rw (state-next h c) (low-safe h c e (x .possible));
+        high-passes = rw (state-next h c) (high-safe h c e (x .possible));
         in-size = rw (state-next h c) (x .in-size);
       }
 
@@ -160,11 +159,7 @@ module _ (b : Battery) where
         before-eight = n;
         floor = w .0;
         ceiling = w .1;
-        good = g;
-        delivered-least = d .0;
-        delivered-most = d .1;
-        taken-least = t .0;
-        taken-most = t .1;
+        possible = record { good = g; delivered-least = d .0; delivered-most = d .1; taken-least = t .0; taken-most = t .1 };
         in-size = within-true (pos 0) (newState (stateAfter b h) c) (pos (b .size)) (x .1);
       }
 
@@ -177,8 +172,8 @@ module _ (b : Battery) where
     unfolding settled
     no-cause-settled =
         rw (
-          true-within (pos 0) (c .delivered) (pos (b .low .bound (c .readings))) (x .delivered-least) (x .delivered-most),
-          true-within (pos 0) (c .taken) (pos (b .high .bound (c .readings))) (x .taken-least) (x .taken-most),
+          true-within (pos 0) (c .delivered) (pos (b .low .bound (c .readings))) (x .possible .delivered-least) (x .possible .delivered-most),
+          true-within (pos 0) (c .taken) (pos (b .high .bound (c .readings))) (x .possible .taken-least) (x .possible .taken-most),
           true-within (pos 0) (newState (stateAfter b h) c) (pos (b .size)) (x .in-size .0) (x .in-size .1),
         )
 
@@ -263,11 +258,13 @@ module _ (b : Battery) where
       readings = k .readings;
       delivered = pos 0;
       taken = pos 0;
-      good = k .good;
-      delivered-least = omega (arith, whole);
-      delivered-most = omega (arith, whole);
-      taken-least = omega (arith, whole);
-      taken-most = omega (arith, whole);
+      possible = record {
+        good = k .good;
+        delivered-least = omega (arith, whole);
+        delivered-most = omega (arith, whole);
+        taken-least = omega (arith, whole);
+        taken-most = omega (arith, whole);
+      };
     }
 
     pub refused-fails : accepts h p ≡ false → InSize b (stateAfter b h +ℤ p) →

@@ -13,8 +13,8 @@ use lib.ListN.{length, drop, replicate}
 use Rattle.common.specs.Answer.{refused, given, isGiven, cause, checked, clear, orBlank}
 use Rattle.common.specs.Lists.{sum, every}
 use Rattle.common.specs.Periods.{periodsTo}
-use Rattle.common.proofs.Answers.{given-is, clear-given, given-clear, orBlank-is, first-given}
-use Rattle.common.proofs.Tests.{both-true}
+use Rattle.common.proofs.Answers.{given-is, given-clear, given-value, orBlank-is, first-given}
+use Rattle.common.proofs.Tests.{not-not, both-true}
 use Rattle.terms.specs.declared.Terms.{Terms}
 use Rattle.energy.specs.Period.{goodReadings}
 use Rattle.energy.specs.declared.curve.Curves.{Curves}
@@ -28,10 +28,6 @@ use Rattle.ledger.specs.Promise.{Call, check, propose, close, after, run
 use Rattle.ledger.proofs.History.{Opened, Still, Passes, accepts, proposal, settled, first-passes, next-passes, no-cause, no-cause-accepts, no-cause-settled, proposal-nearest, safe, refused-exactly, refused-fails}
 use Rattle.ledger.proofs.Agreement.{Totals, no-totals, totals-next, rule-holds, usable-is, accepts-are, proposal-is, settles-are, closed-is}
 
-not-not : (a : Bool) → not (not a) ≡ true → a ≡ true
-not-not true e = refl
-not-not false e = e
-
 -- the causes of a closing, of which none holds
 four : (u a g s : Bool) → not u && (not (not a) && (not (not g) && (not (not s) && true))) ≡ true → (u ≡ false) × (a ≡ true) × (g ≡ true) × (s ≡ true)
 four u a g s e =
@@ -39,10 +35,7 @@ four u a g s e =
     let y = both-true (not (not a)) (not (not g) && (not (not s) && true)) (x .1) in
     let z = both-true (not (not g)) (not (not s) && true) (y .1) in
     let w = both-true (not (not s)) true (z .1) in
-    (not-true u (x .0), not-not a (y .0), not-not g (z .0), not-not s (w .0))
-
-same-given : {A : Type 0} {x y : A} → given x ≡ given y → x ≡ y
-same-given e = cc
+    (not-true u (x .0), sym (not-not a) ∙ y .0, sym (not-not g) ∙ z .0, sym (not-not s) ∙ w .0)
 
 module _ (t : Terms) (curves : Curves) (size first : ℕ) (no-number : clear (openingCauses t curves size first) ≡ true) where
   abbrev b : Battery
@@ -109,7 +102,7 @@ module _ (t : Terms) (curves : Curves) (size first : ℕ) (no-number : clear (op
           no-cause b h c (omega (arith, n, a .passes .eight)) (w .1) (w .2) (w .3),
       λ o.
           let n : eqb (length h) 8 ≡ false = ne-eqb (length h) 8 (λ e. omega (arith, o .before-eight)) in
-          given-exactly c ∙ rw (n, no-cause-accepts b h c o, o .good, no-cause-settled b h c o),
+          given-exactly c ∙ rw (n, no-cause-accepts b h c o, o .possible .good, no-cause-settled b h c o),
     )
 
     -- ---- a refused call leaves the record as it was
@@ -130,7 +123,7 @@ module _ (t : Terms) (curves : Curves) (size first : ℕ) (no-number : clear (op
             let w = given-clear (cause 10 (unusable r) ∷ cause 8 (not (calls.accepts r p)) ∷ []) tt tt e in
             let x = both-true (not (unusable r)) (not (not (calls.accepts r p)) && true) w in
             let y = both-true (not (not (calls.accepts r p))) true (x .1) in
-            sym (accepting p) ∙ not-not (calls.accepts r p) (y .0),
+            sym (accepting p) ∙ sym (not-not (calls.accepts r p)) ∙ y .0,
         λ e. rw (is-usable, accepting p, e),
       )
 
@@ -235,5 +228,5 @@ pub demand-3 : (t : Terms) (curves : Curves) (size first : ℕ) (r₀ : Record) 
 unfolding opening
 demand-3 t curves size first r₀ e calls =
     let no-number = given-clear (openingCauses t curves size first) (firstRecord t curves size first) r₀ e in
-    let is : firstRecord t curves size first ≡ r₀ = same-given (sym (clear-given (openingCauses t curves size first) (firstRecord t curves size first) no-number) ∙ e) in
+    let is : firstRecord t curves size first ≡ r₀ = given-value (openingCauses t curves size first) (firstRecord t curves size first) r₀ e in
     rw (← is) (kept t curves size first no-number calls)

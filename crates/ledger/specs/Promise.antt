@@ -114,16 +114,19 @@ module _ (b : Battery) where
 
   -- ---- an outcome of period n+1
 
-  -- any readings that 6 lets through, with delivered from 0 to their low bound and taken from 0 to their high one
-  pub record Outcome : Type 0 where
-    pub readings : List ℕ
-    pub delivered : ℤ
-    pub taken : ℤ
+  -- readings that 6 lets through, with delivered from 0 to their low bound and taken from 0 to their high one
+  pub record Possible (readings : List ℕ) (delivered taken : ℤ) : Type 0 where
     pub good : b .good readings ≡ true
     pub delivered-least : pos 0 ≤ℤ delivered
     pub delivered-most : delivered ≤ℤ pos (b .low .bound readings)
     pub taken-least : pos 0 ≤ℤ taken
     pub taken-most : taken ≤ℤ pos (b .high .bound readings)
+
+  pub record Outcome : Type 0 where
+    pub readings : List ℕ
+    pub delivered : ℤ
+    pub taken : ℤ
+    pub possible : Possible readings delivered taken
 
   abbrev pub ending : ℤ → Outcome → Closing
   ending p o = record { purchase = p; readings = o .readings; delivered = o .delivered; taken = o .taken }
@@ -141,11 +144,7 @@ module _ (b : Battery) where
     pub before-eight : length h < 8
     pub floor : needAfter (b .low) h ≤ℤ (stateAfter h +ℤ c .purchase)
     pub ceiling : (stateAfter h +ℤ c .purchase) ≤ℤ (pos (b .size) -ℤ needAfter (b .high) h)
-    pub good : b .good (c .readings) ≡ true
-    pub delivered-least : pos 0 ≤ℤ c .delivered
-    pub delivered-most : c .delivered ≤ℤ pos (b .low .bound (c .readings))
-    pub taken-least : pos 0 ≤ℤ c .taken
-    pub taken-most : c .taken ≤ℤ pos (b .high .bound (c .readings))
+    pub possible : Possible (c .readings) (c .delivered) (c .taken)
     pub in-size : InSize (newState (stateAfter h) c)
 
   -- while fewer than eight closings are carried out

@@ -253,6 +253,16 @@ fn closed_record(
     }
 }
 
+// A refusal, beside the record as it was.
+fn refuse(answer: CloseAnswer, given: Record) -> Closed
+    ensures { λ r. ⌜ r ≡ record { answer = answer; «record» = given } ⌝ }
+{
+    Closed {
+        answer,
+        record: given,
+    }
+}
+
 // Closes a period: refusals 10, 8, 6, 9; the record stays as it was beside a refusal.
 pub fn close_period(
     given: Record,
@@ -264,16 +274,10 @@ pub fn close_period(
     ensures { λ r. ⌜ (closedOf r ≡ closing given (record { purchase = purchase; readings = now (readings .entry); delivered = delivered; taken = taken })) × (r .«record» ≡ orBlank given (closing given (record { purchase = purchase; readings = now (readings .entry); delivered = delivered; taken = taken }))) ⌝ }
 {
     if is_unusable(given) {
-        return Closed {
-            answer: CloseAnswer::Unusable,
-            record: given,
-        };
+        return refuse(CloseAnswer::Unusable, given);
     }
     if !is_accepted(given, purchase) {
-        return Closed {
-            answer: CloseAnswer::Purchase,
-            record: given,
-        };
+        return refuse(CloseAnswer::Purchase, given);
     }
     let t = given.terms;
     let curves = given.curves;
@@ -281,10 +285,7 @@ pub fn close_period(
     let high_q = t.high;
     let bounds = energy::period::period_energy(low_q, high_q, curves, readings);
     let PeriodEnergy::Bounds { low, high } = bounds else {
-        return Closed {
-            answer: CloseAnswer::Readings,
-            record: given,
-        };
+        return refuse(CloseAnswer::Readings, given);
     };
     let settled = settle(
         given.state,
@@ -296,10 +297,7 @@ pub fn close_period(
         taken,
     );
     let Settled::To(new) = settled else {
-        return Closed {
-            answer: CloseAnswer::Energy,
-            record: given,
-        };
+        return refuse(CloseAnswer::Energy, given);
     };
     let record = closed_record(given, low, high, new, purchase, delivered, taken);
     Closed {

@@ -7,8 +7,7 @@ use lib.IntN.{pos, _-ℤ_}
 use lib.ListN.{replicate}
 use lib.Signed.{ltZ}
 use Rattle.common.specs.Answer.{Answer, refused, given, Cause, cause, checked}
-use Rattle.terms.specs.Terms.{Q, REV, above1000, limitsBroken}
-use Rattle.terms.specs.declared.Quantities.{Quantities}
+use Rattle.terms.specs.Terms.{Q, REV, noQuantities, above1000, limitsBroken}
 use Rattle.terms.specs.declared.Terms.{Terms}
 use Rattle.energy.specs.Curve.{blank, curvesRule}
 use Rattle.energy.specs.declared.curve.Curve.{Curve}
@@ -73,13 +72,10 @@ opening t curves size first = checked (openingCauses t curves size first) (first
 abbrev pub blankCurve : Curve
 blankCurve = record { count = 0; points = replicate 5 blank }
 
-abbrev pub blankQuantities : Quantities
-blankQuantities = record { dc = 0; dm = 0; dr = 0 }
-
 abbrev pub blankRecord : Record
 blankRecord =
     firstRecord
-    (record { low = blankQuantities; high = blankQuantities; «export_limit» = pos 0; «import_limit» = pos 0 })
+    (record { low = noQuantities; high = noQuantities; «export_limit» = pos 0; «import_limit» = pos 0 })
     (record { dc = blankCurve; dm = blankCurve; dr = blankCurve })
     0 0
 

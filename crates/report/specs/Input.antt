@@ -6,6 +6,7 @@ use lib.Dec.{leb, eqb}
 use lib.ListN.{length, getD, take, drop, replicate}
 use Rattle.common.specs.Lists.{every}
 use Rattle.common.specs.Periods.{periodsTo}
+use Rattle.terms.specs.Terms.{noQuantities}
 use Rattle.terms.specs.declared.Quantities.{Quantities}
 use Rattle.report.specs.declared.Field.{Field}
 use Rattle.report.specs.declared.Field.the-variants as Field
@@ -66,9 +67,6 @@ periodLines text = map (λ (i : ℕ). energiesAt text (suc i)) (periodsTo 8)
 abbrev pub hasTerms : Header → Bool
 hasTerms (Header.Terms dc dm dr) = true
 hasTerms Header.Malformed = false
-
-abbrev pub noQuantities : Quantities
-noQuantities = record { dc = 0; dm = 0; dr = 0 }
 
 abbrev pub quantitiesOf : Header → Quantities
 quantitiesOf (Header.Terms dc dm dr) = record { dc = dc; dm = dm; dr = dr }

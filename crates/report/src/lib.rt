@@ -356,7 +356,7 @@ pub fn report(input: &[u8], output: &mut [u8]) -> ReportAnswer
 
 // The number of an answer, 0 for the table.
 pub fn number(answer: ReportAnswer) -> u32
-    ensures { λ r. ⌜ r ≡ Report.numberOf answer ⌝ }
+    ensures { λ r. ⌜ r ≡ Report.answerNumber answer ⌝ }
 {
     match answer {
         ReportAnswer::Written => 0,

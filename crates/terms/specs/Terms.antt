@@ -19,6 +19,9 @@ use Rattle.terms.specs.declared.TermsAnswer.the-variants.{Good, Quantity
 abbrev pub Q : Quantities → ℕ
 Q q = q .dc + q .dm + q .dr
 
+abbrev pub noQuantities : Quantities
+noQuantities = record { dc = 0; dm = 0; dr = 0 }
+
 -- the sum over the services of their MW times what DC, DM and DR have per MW
 abbrev pub perMW : ℕ → ℕ → ℕ → Quantities → ℕ
 perMW dc dm dr q = dc * q .dc + dm * q .dm + dr * q .dr

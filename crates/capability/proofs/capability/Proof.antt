@@ -1,8 +1,8 @@
 -- `capability::capability` meets its contract. Assumes nothing.
 use mathlib.Core.Path.{sym, _∙_}
-use mathlib.Core.Bool.{and-eq-true-iff}
 use borrow.Author.Needs.{needs}
 use borrow.Author.Tests.{not-false}
+use Rattle.common.proofs.Tests.{both-true}
 use Rattle.capability.specs.Capability.{capabilityAnswer}
 use Rattle.capability.proofs.capability.Statement.{statement}
 use Rattle.capability.proofs.capability.Tie as tie
@@ -17,7 +17,7 @@ returns c = rw (← c .before .points-hold .ensures, c .if1 .taken)
 capability-of-requires : tie.Need-capability-of-requires
 capability-of-requires c κs =
     let t = c .before in
-    sym (t .points-hold .ensures) ∙ and-eq-true-iff (t .points-hold .result) _ .0 (not-false _ (c .if1 .left)) .0
+    sym (t .points-hold .ensures) ∙ both-true (t .points-hold .result) _ (not-false _ (c .if1 .left)) .0
 
 returns-2 : tie.Need-returns-2
 unfolding capabilityAnswer

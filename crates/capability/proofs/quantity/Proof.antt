@@ -1,9 +1,10 @@
 -- `capability::quantity` meets its contract. Assumes nothing.
 use mathlib.Core.Path.{_≡_, sym, _∙_}
-use mathlib.Core.Bool.{true, _&&_, and-eq-true-iff}
+use mathlib.Core.Bool.{true, _&&_}
 use native.Mathlib.Omega.{arith}
 use borrow.Author.Needs.{needs}
 use borrow.Author.Tests.{not-false}
+use Rattle.common.proofs.Tests.{both-true}
 use Rattle.capability.specs.Capability.{limitsRule, pointsRule, quantityAnswer}
 use Rattle.capability.proofs.Laws.{room-most}
 use Rattle.capability.proofs.quantity.Statement.{statement}
@@ -30,9 +31,9 @@ rules e =
     let p = e .before in
     let l = p .before in
     let d = l .before in
-    let most = and-eq-true-iff (d .direction-holds .result && l .limits-hold .result && p .points-hold .result) _ .0 (not-false _ (e .if1 .left)) in
-    let points = and-eq-true-iff (d .direction-holds .result && l .limits-hold .result) _ .0 (most .0) in
-    let limits = and-eq-true-iff (d .direction-holds .result) _ .0 (points .0) in
+    let most = both-true (d .direction-holds .result && l .limits-hold .result && p .points-hold .result) _ (not-false _ (e .if1 .left)) in
+    let points = both-true (d .direction-holds .result && l .limits-hold .result) _ (most .0) in
+    let limits = both-true (d .direction-holds .result) _ (points .0) in
     (sym (l .limits-hold .ensures) ∙ limits .1, sym (p .points-hold .ensures) ∙ points .1)
 
 room-of-requires : tie.Need-room-of-requires

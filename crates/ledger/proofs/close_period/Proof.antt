@@ -113,18 +113,25 @@ module _ (c : tie.After-settle) where
 is-unusable-requires : tie.Need-is-unusable-requires
 is-unusable-requires c κs = search needs
 
+refuse-requires : tie.Need-refuse-requires
+refuse-requires c κs = search needs
+
 returns : tie.Need-returns
 unfolding closing
-returns c = rw (← c .before .is-unusable .ensures, c .if1 .taken) (refl, refl)
+returns c = rw (c .refuse .ensures, ← c .before .before .is-unusable .ensures, c .before .if1 .taken) (refl, refl)
 
 is-accepted-requires : tie.Need-is-accepted-requires
 is-accepted-requires c κs = before-eight _ (sym (c .before .is-unusable .ensures) ∙ c .if1 .left)
 
+refuse-requires-2 : tie.Need-refuse-requires-2
+refuse-requires-2 c κs = search needs
+
 returns-2 : tie.Need-returns-2
 unfolding closing
 returns-2 c =
-    let i = c .before .before in
-    rw (← i .before .is-unusable .ensures, i .if1 .left, ← toZ-ofZ (i .before .before .before .fits .purchase), ← c .before .is-accepted .ensures, c .if2 .taken) (refl, refl)
+    let d = c .before in
+    let i = d .before .before in
+    rw (c .refuse2 .ensures, ← i .before .is-unusable .ensures, i .if1 .left, ← toZ-ofZ (i .before .before .before .fits .purchase), ← d .before .is-accepted .ensures, d .if2 .taken) (refl, refl)
 
 period-energy-requires : tie.Need-period-energy-requires
 period-energy-requires c κs = search needs
@@ -132,13 +139,17 @@ period-energy-requires c κs = search needs
 enum-known-bounds : tie.Need-enum-known-bounds
 enum-known-bounds c = search needs
 
+refuse-requires-3 : tie.Need-refuse-requires-3
+refuse-requires-3 c κs = search needs
+
 returns-3 : tie.Need-returns-3
 unfolding closing
 returns-3 c =
-    let e = c .before in
+    let d = c .before in
+    let e = d .before in
     let i = e .before .before .before .before .before in
     let f = fits-here i in
-    rw (can-use i, accepted i, no-bounds _ _ _ _ (f .low-quantity) (f .high-quantity) (f .curves-hold) (e .period-energy .result) (e .period-energy .ensures) (c .match .keys2)) (refl, refl)
+    rw (c .refuse3 .ensures, can-use i, accepted i, no-bounds _ _ _ _ (f .low-quantity) (f .high-quantity) (f .curves-hold) (e .period-energy .result) (e .period-energy .ensures) (d .match .keys2)) (refl, refl)
 
 settle-requires : tie.Need-settle-requires
 settle-requires c κs = search needs
@@ -149,18 +160,23 @@ enum-known-settled c = search needs
 enum-told : tie.Need-enum-told
 enum-told c = search needs
 
+refuse-requires-4 : tie.Need-refuse-requires-4
+refuse-requires-4 c κs = search needs
+
 returns-4 : tie.Need-returns-4
 unfolding closing
 returns-4 c =
-    let m = c .before .before in
+    let d = c .before in
+    let m = d .before .before in
     let b = bounds-here m in
     rw (
+      c .refuse4 .ensures,
       can-use (on m),
       accepted (on m),
       b .good,
       ← b .low-is,
       ← b .high-is,
-      not-settled (test m) (above (new m)) (m .settle .result) (settle-is m) (c .enum-told .given .1),
+      not-settled (test m) (above (new m)) (m .settle .result) (settle-is m) (d .enum-told .given .1),
     )
     (refl, refl)
 
@@ -187,15 +203,19 @@ close-period-spec =
     tie.close
     (tie.spec
     is-unusable-requires
+    refuse-requires
     returns
     is-accepted-requires
+    refuse-requires-2
     returns-2
     period-energy-requires
     enum-known-bounds
+    refuse-requires-3
     returns-3
     settle-requires
     enum-known-settled
     enum-told
+    refuse-requires-4
     returns-4
     closed-record-requires
     returns-5)
