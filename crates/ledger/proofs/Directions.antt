@@ -1,10 +1,10 @@
 -- One direction after the closings carried out: what it needs at the next start, and how one more closing moves the start.
 -- Assumes nothing.
 use mathlib.Core.Path.{_≡_, ap, _∙_}
-use mathlib.Core.List.{List, [], _∷_, map, map-append}
+use mathlib.Core.List.{[], _∷_, map, map-append}
 use Prim.Native.Nat.{ℕ, suc, _+_, _-_, _≤_, _<_}
 use native.Mathlib.Omega.{arith}
-use lib.IntN.{ℤ, pos, _+ℤ_, _-ℤ_}
+use lib.IntN.{pos, _+ℤ_, _-ℤ_}
 use lib.ListN.{length, length-append, length-map, List·getD-append}
 use lib.Seq.{getD-at}
 use Rattle.common.specs.Periods.{ofPeriod}

@@ -9,7 +9,7 @@ use native.Mathlib.Omega.{arith}
 use native.Mathlib.Decide.{decLe}
 use borrow.Author.Tests.{le-leb, lt-leb, eq-eqb}
 use lib.Dec.{eqb}
-use lib.IntN.{ℤ, pos, _+ℤ_}
+use lib.IntN.{pos, _+ℤ_}
 use lib.ListN.{length, getD, set, length-append, length-map, List·getD-eq-default}
 use Rattle.common.specs.Periods.{periodsTo, ofPeriod}
 use Rattle.common.proofs.Periods.{map-next, map-local, length-periods, period-at, every-period}

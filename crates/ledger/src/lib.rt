@@ -299,9 +299,8 @@ pub fn close_period(
     let Settled::To(new) = settled else {
         return refuse(CloseAnswer::Energy, given);
     };
-    let record = closed_record(given, low, high, new, purchase, delivered, taken);
     Closed {
         answer: CloseAnswer::Closed,
-        record,
+        record: closed_record(given, low, high, new, purchase, delivered, taken),
     }
 }

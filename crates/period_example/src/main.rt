@@ -12,19 +12,9 @@ use energy::period::period_energy;
 use libc::STDOUT_FILENO;
 use terms::Quantities;
 
-fn write_blanks(used: usize) {
-    let blanks = [b' '; 9];
-    if used < 9 {
-        io::write_all(STDOUT_FILENO, &blanks[..9 - used]);
-    }
-}
-
 fn write_number(n: u64) {
-    let mut digits = [0u8; 20];
-    let count = io::decimal(n, &mut digits);
-    write_blanks(count);
-    io::write_all(STDOUT_FILENO, &digits[..count]);
-    io::write_all(STDOUT_FILENO, b"\n");
+    let line = report::number_line(n);
+    io::write_all(STDOUT_FILENO, &line);
 }
 
 // Both bounds, or a refusal's number.

@@ -31,5 +31,5 @@ table [] = []
 table (r ∷ rs) = lineOf r ++ table rs
 
 -- a refusal prints its number in nine columns and a line feed
-unfoldable pub refusalLine : ℕ → List ℕ
-refusalLine n = text 9 (pos n) ++ (10 ∷ [])
+unfoldable pub numberLine : ℕ → List ℕ
+numberLine n = text 9 (pos n) ++ (10 ∷ [])

@@ -326,6 +326,15 @@ fn put_rows(output: &mut [u8], rows: [Row; 8])
     }
 }
 
+// The table of any rows.
+pub fn table_of(rows: [Row; 8]) -> [u8; 488]
+    ensures { λ r. ⌜ r ≡ Output.table rows ⌝ }
+{
+    let mut output = [0u8; 488];
+    put_rows(&mut output, rows);
+    output
+}
+
 // Reads the input, monitors it and writes the table at the start of the output: refusals 13, 1, 7, 11, 14.
 pub fn report(input: &[u8], output: &mut [u8]) -> ReportAnswer
     ensures { λ r. ⌜ (Report.answerOf r (now (output .exit)) ≡ Report.reporting (now (input .entry)) (now (output .entry))) × (now (output .exit) ≡ orBlank (now (output .entry)) (Report.reporting (now (input .entry)) (now (output .entry)))) ⌝ }
@@ -368,12 +377,12 @@ pub fn number(answer: ReportAnswer) -> u32
     }
 }
 
-// What is printed for a refusal.
-pub fn refusal_line(n: u32) -> [u8; 10]
-    ensures { λ r. ⌜ r ≡ Output.refusalLine n ⌝ }
+// A number's line: what is printed for a refusal.
+pub fn number_line(n: u64) -> [u8; 10]
+    ensures { λ r. ⌜ r ≡ Output.numberLine n ⌝ }
 {
     let mut line = [0u8; 10];
-    put_at(&mut line, 0, 9, false, n as u64);
+    put_at(&mut line, 0, 9, false, n);
     line[9] = 10;
     line
 }
