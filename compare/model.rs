@@ -498,13 +498,13 @@ impl Record {
 
 // Monitor
 
-/// "Checks: 1, 7, 11, each over all eight periods." With each row its verdict: "a period passes exactly when the reported
-/// energy is at least start".
+/// "Checks: 1, 7, 11, each over all eight periods." A row has period, bound, start, end, sched, back, left, flag and verdict:
+/// "a period passes exactly when the reported energy is at least start".
 pub fn monitor(
     direction: &Direction,
     bounds: &[Int; 8],
     reported: &[Int; 8],
-) -> Result<Vec<(Row, bool)>, i64> {
+) -> Result<Vec<[Int; 9]>, i64> {
     if direction.quantity() == 0 || direction.quantity() > 1_000 {
         return Err(1);
     }
@@ -515,9 +515,16 @@ pub fn monitor(
         return Err(11);
     }
     let rows = requirement(direction.rev(), direction.er(), bounds);
-    Ok((0..8)
-        .map(|i| (rows[i], reported[i] >= rows[i].start))
-        .collect())
+    let row = |i: usize| {
+        let r = rows[i];
+        let verdict = reported[i] >= r.start;
+        let (flag, verdict) = (r.flag.into(), verdict.into());
+        let period = i as Int + 1;
+        [
+            period, r.bound, r.start, r.end, r.sched, r.back, r.left, flag, verdict,
+        ]
+    };
+    Ok((0..8).map(row).collect())
 }
 
 // Capability
@@ -645,6 +652,12 @@ fn read_report(input: &[u8]) -> Option<(Direction, [Int; 8], [Int; 8])> {
     Some((Direction([first[1], first[2], first[3]]), bounds, reported))
 }
 
+/// "period in two columns and, in nine each, bound, start, end, sched, back, left; then flag and verdict in two columns"
+pub fn row_text(row: &[Int; 9]) -> String {
+    let [period, bound, start, end, sched, back, left, flag, verdict] = row;
+    format!("{period:2}{bound:9}{start:9}{end:9}{sched:9}{back:9}{left:9}{flag:2}{verdict:2}")
+}
+
 /// "Checks: 13, 1, 7, 11, 14." `room` is the bytes that the output has.
 pub fn report(input: &[u8], room: usize) -> Result<String, i64> {
     let (direction, bounds, reported) = read_report(input).ok_or(13)?;
@@ -652,20 +665,5 @@ pub fn report(input: &[u8], room: usize) -> Result<String, i64> {
     if room < 488 {
         return Err(14);
     }
-    let mut text = String::new();
-    for (i, (r, verdict)) in rows.iter().enumerate() {
-        text += &format!(
-            "{:2}{:9}{:9}{:9}{:9}{:9}{:9}{:2}{:2}\n",
-            i + 1,
-            r.bound,
-            r.start,
-            r.end,
-            r.sched,
-            r.back,
-            r.left,
-            i32::from(r.flag),
-            i32::from(*verdict)
-        );
-    }
-    Ok(text)
+    Ok(rows.iter().map(|row| row_text(row) + "\n").collect())
 }

@@ -92,7 +92,7 @@ impl Script {
     /// The model's last eight lines are the rows that a paper prints.
     pub fn printed_rows(&self, rows: &[[Int; 9]; 8]) {
         for (line, row) in self.lines[self.lines.len() - 8..].iter().zip(rows) {
-            printed(&self.text, &format!("row{}", join(row)), &line.text);
+            printed(&self.text, &model::row_text(row), &line.text);
         }
     }
 
@@ -212,19 +212,8 @@ impl Script {
             Err(number) => self.expect("monitor", number, &[]),
             Ok(rows) => {
                 self.expect("monitor", 0, &[]);
-                for (i, (r, verdict)) in rows.iter().enumerate() {
-                    let row = [
-                        i as Int + 1,
-                        r.bound,
-                        r.start,
-                        r.end,
-                        r.sched,
-                        r.back,
-                        r.left,
-                        r.flag.into(),
-                        (*verdict).into(),
-                    ];
-                    self.push(format!("row{}", join(&row)), None);
+                for row in &rows {
+                    self.push(model::row_text(row), None);
                 }
             }
         }

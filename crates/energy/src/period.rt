@@ -3,7 +3,7 @@ ghost use mathlib.Core.Path.{_≡_};
 ghost use mathlib.Core.Bool.{true, not};
 ghost use mathlib.Core.List.{[], _∷_};
 ghost use Prim.Native.Nat.{_≤_};
-ghost use Rattle.common.specs.Answer.{cause, checked};
+ghost use Rattle.common.specs.Answer.{numberOf, cause, checked};
 ghost use Rattle.terms.specs.Terms.{Q};
 ghost use Rattle.common.specs.Fraction.{roundedUp};
 ghost use Rattle.energy.specs.Curve.{curvesRule};
@@ -155,4 +155,16 @@ pub fn period_energy(
         return PeriodEnergy::Curve;
     }
     from_readings(low, high, curves, readings)
+}
+
+// The number of an answer, 0 for bounds.
+pub fn number(answer: PeriodEnergy) -> u32
+    ensures { λ r. ⌜ r ≡ numberOf (answerOf answer) ⌝ }
+{
+    match answer {
+        PeriodEnergy::Bounds { low: _, high: _ } => 0,
+        PeriodEnergy::Quantity => 1,
+        PeriodEnergy::Curve => 5,
+        PeriodEnergy::Readings => 6,
+    }
 }

@@ -149,12 +149,12 @@ abbrev pub proposedOf : ProposeAnswer → Answer ℤ
 proposedOf (proposes.Purchase p) = given p
 proposedOf proposes.Unusable = refused 10
 
-abbrev pub numbered : CloseAnswer → Record → Answer Record
-numbered closes.Closed r = given r
-numbered closes.Unusable r = refused 10
-numbered closes.Purchase r = refused 8
-numbered closes.Readings r = refused 6
-numbered closes.Energy r = refused 9
+abbrev pub numbered : {A : Type 0} → CloseAnswer → A → Answer A
+numbered closes.Closed a = given a
+numbered closes.Unusable a = refused 10
+numbered closes.Purchase a = refused 8
+numbered closes.Readings a = refused 6
+numbered closes.Energy a = refused 9
 
 abbrev pub closedOf : Closed → Answer Record
 closedOf c = numbered (c .answer) (c .«record»)

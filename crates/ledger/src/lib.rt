@@ -3,10 +3,10 @@ ghost use mathlib.Core.Path.{_≡_};
 ghost use mathlib.Core.Bool.{cond};
 ghost use Prim.Native.Nat.{suc, _+_, _≤_, _<_, _^_};
 ghost use lib.IntN.{pos, _+ℤ_, _-ℤ_};
-ghost use Rattle.common.specs.Answer.{orBlank};
+ghost use Rattle.common.specs.Answer.{numberOf, orBlank};
 ghost use Rattle.signed.specs.Sign.{above, below, within};
 ghost use Rattle.terms.specs.Terms.{REV};
-ghost use Rattle.ledger.specs.Calls.{need, floor, ceiling, accepts, toward, moved, settles, closedEntries, closedRecord, unusable, checking, checkedOf, proposing, proposedOf, closing, closedOf};
+ghost use Rattle.ledger.specs.Calls.{need, floor, ceiling, accepts, toward, moved, settles, closedEntries, closedRecord, unusable, checking, checkedOf, proposing, proposedOf, closing, numbered, closedOf};
 use energy::period::PeriodEnergy;
 use ledger_record::Entries;
 use ledger_record::Record;
@@ -302,5 +302,38 @@ pub fn close_period(
     Closed {
         answer: CloseAnswer::Closed,
         record: closed_record(given, low, high, new, purchase, delivered, taken),
+    }
+}
+
+// ---- the numbers of the answers, 0 where nothing is refused
+
+pub fn check_number(answer: CheckAnswer) -> u32
+    ensures { λ r. ⌜ r ≡ numberOf (checkedOf answer) ⌝ }
+{
+    match answer {
+        CheckAnswer::Accepted => 0,
+        CheckAnswer::Unusable => 10,
+        CheckAnswer::Purchase => 8,
+    }
+}
+
+pub fn propose_number(answer: ProposeAnswer) -> u32
+    ensures { λ r. ⌜ r ≡ numberOf (proposedOf answer) ⌝ }
+{
+    match answer {
+        ProposeAnswer::Purchase(_) => 0,
+        ProposeAnswer::Unusable => 10,
+    }
+}
+
+pub fn close_number(answer: CloseAnswer) -> u32
+    ensures { λ r. ⌜ r ≡ numberOf {A = Unit} (numbered answer tt) ⌝ }
+{
+    match answer {
+        CloseAnswer::Closed => 0,
+        CloseAnswer::Unusable => 10,
+        CloseAnswer::Purchase => 8,
+        CloseAnswer::Readings => 6,
+        CloseAnswer::Energy => 9,
     }
 }

@@ -79,14 +79,14 @@ blankRecord =
     (record { dc = blankCurve; dm = blankCurve; dr = blankCurve })
     0 0
 
--- the number, or the record, of each case of the code's answer
-abbrev pub numbered : OpenAnswer → Record → Answer Record
-numbered answers.Open r = given r
-numbered answers.Quantity r = refused 1
-numbered answers.Power r = refused 2
-numbered answers.Curve r = refused 5
-numbered answers.Size r = refused 3
-numbered answers.State r = refused 4
+-- the number, or what is given, of each case of the code's answer
+abbrev pub numbered : {A : Type 0} → OpenAnswer → A → Answer A
+numbered answers.Open a = given a
+numbered answers.Quantity a = refused 1
+numbered answers.Power a = refused 2
+numbered answers.Curve a = refused 5
+numbered answers.Size a = refused 3
+numbered answers.State a = refused 4
 
 abbrev pub openedOf : Opened → Answer Record
 openedOf o = numbered (o .answer) (o .«record»)

@@ -4,10 +4,10 @@ ghost use mathlib.Core.Bool.{cond, _&&_};
 ghost use Prim.Native.Nat.{suc, _+_, _-_, _*_, _≤_};
 ghost use lib.Dec.{leb, eqb};
 ghost use lib.IntN.{pos};
-ghost use Rattle.common.specs.Answer.{clear, orBlank};
+ghost use Rattle.common.specs.Answer.{numberOf, clear, orBlank};
 ghost use Rattle.common.specs.Lists.{sum};
 ghost use Rattle.signed.specs.Sign.{above, eqZ};
-ghost use Rattle.ledger_record.specs.Opening.{quantityOut, sizeOut, firstOut, openingCauses, firstRecord, blankRecord, opening, openedOf};
+ghost use Rattle.ledger_record.specs.Opening.{quantityOut, sizeOut, firstOut, openingCauses, firstRecord, blankRecord, opening, numbered, openedOf};
 ghost use Rattle.ledger_record.specs.Rule.{startAt, entriesRule, totalsRule, stateRule, recordRule};
 use energy::curve::Curve;
 use energy::curve::Curves;
@@ -363,4 +363,18 @@ pub fn record_holds(given: Record) -> bool
         & entries_hold(high, closed, high_entries)
         & totals_hold(given)
         & state_holds(given)
+}
+
+// The number of an opening's answer, 0 for an open record.
+pub fn open_number(answer: OpenAnswer) -> u32
+    ensures { λ r. ⌜ r ≡ numberOf {A = Unit} (numbered answer tt) ⌝ }
+{
+    match answer {
+        OpenAnswer::Open => 0,
+        OpenAnswer::Quantity => 1,
+        OpenAnswer::Power => 2,
+        OpenAnswer::Curve => 5,
+        OpenAnswer::Size => 3,
+        OpenAnswer::State => 4,
+    }
 }

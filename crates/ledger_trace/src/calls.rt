@@ -3,7 +3,6 @@ use crate::show::write;
 use crate::show::write_line;
 use crate::show::write_number;
 use crate::show::write_record;
-use crate::show::write_rows;
 use crate::show::write_signed;
 use crate::state::State;
 use crate::state::refuse;
@@ -17,10 +16,7 @@ use crate::text::value_u32;
 use energy::curve::Curve;
 use energy::curve::Curves;
 use energy::curve::Point;
-use ledger::CheckAnswer;
 use ledger::ProposeAnswer;
-use ledger_record::OpenAnswer;
-use monitor::MonitorAnswer;
 use terms::Quantities;
 use terms::Terms;
 
@@ -95,17 +91,6 @@ pub fn high_of(numbers: Numbers) -> Quantities {
     }
 }
 
-fn open_number(answer: OpenAnswer) -> u64 {
-    match answer {
-        OpenAnswer::Open => 0,
-        OpenAnswer::Quantity => 1,
-        OpenAnswer::Power => 2,
-        OpenAnswer::Curve => 5,
-        OpenAnswer::Size => 3,
-        OpenAnswer::State => 4,
-    }
-}
-
 // open LDC LDM LDR HDC HDM HDR EXPORT IMPORT SIZE FIRST
 pub fn open(numbers: Numbers, state: State) -> State {
     if numbers.count != 10 {
@@ -126,17 +111,9 @@ pub fn open(numbers: Numbers, state: State) -> State {
     let opened = ledger_record::open_record(t, curves, size, first);
     let answer = opened.answer;
     let record = opened.record;
-    write_line(b"open", open_number(answer));
+    write_line(b"open", ledger_record::open_number(answer) as u64);
     write_record(record);
     with_record(state, record)
-}
-
-fn check_number(answer: CheckAnswer) -> u64 {
-    match answer {
-        CheckAnswer::Accepted => 0,
-        CheckAnswer::Unusable => 10,
-        CheckAnswer::Purchase => 8,
-    }
 }
 
 // check P
@@ -146,21 +123,9 @@ pub fn check(numbers: Numbers, state: State) -> State {
     }
     let record = state.record;
     let answer = ledger::check_purchase(record, value(numbers, 0));
-    write_line(b"check", check_number(answer));
+    write_line(b"check", ledger::check_number(answer) as u64);
     write_record(record);
     state
-}
-
-fn write_proposal(answer: ProposeAnswer) {
-    write(b"propose");
-    match answer {
-        ProposeAnswer::Purchase(p) => {
-            write_number(0);
-            write_signed(p);
-        }
-        ProposeAnswer::Unusable => write(b" 10 0"),
-    }
-    write(b"\n");
 }
 
 // propose
@@ -169,18 +134,16 @@ pub fn propose(numbers: Numbers, state: State) -> State {
         return refuse(state);
     }
     let record = state.record;
-    write_proposal(ledger::propose_purchase(record));
+    let answer = ledger::propose_purchase(record);
+    write(b"propose");
+    write_number(ledger::propose_number(answer) as u64);
+    match answer {
+        ProposeAnswer::Purchase(p) => write_signed(p),
+        ProposeAnswer::Unusable => write_number(0),
+    }
+    write(b"\n");
     write_record(record);
     state
-}
-
-fn monitor_number(answer: MonitorAnswer) -> u64 {
-    match answer {
-        MonitorAnswer::Rows => 0,
-        MonitorAnswer::Quantity => 1,
-        MonitorAnswer::Bound => 7,
-        MonitorAnswer::Reported => 11,
-    }
 }
 
 fn eight_from(numbers: Numbers, from: usize) -> [u32; 8] {
@@ -207,11 +170,12 @@ pub fn watch(numbers: Numbers, state: State) -> State {
     let reported = eight_from(numbers, 11);
     let monitored = monitor::monitor(low_of(numbers), bounds, reported);
     let answer = monitored.answer;
-    let number = monitor_number(answer);
+    let number = monitor::number(answer);
     let rows = monitored.rows;
-    write_line(b"monitor", number);
+    write_line(b"monitor", number as u64);
     if number == 0 {
-        write_rows(rows);
+        let table = report::table_of(rows);
+        write(&table);
     }
     state
 }

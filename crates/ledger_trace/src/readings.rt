@@ -15,7 +15,6 @@ use crate::text::value_u16;
 use crate::text::value_u32;
 use energy::block::BlockCheck;
 use energy::period::PeriodEnergy;
-use ledger::CloseAnswer;
 
 fn fill(readings: &mut [u16], from: usize, end: usize, reading: u16) {
     let mut i = from;
@@ -55,16 +54,6 @@ pub fn clear(numbers: Numbers, state: State) -> State {
     hold(state, 0)
 }
 
-fn close_number(answer: CloseAnswer) -> u64 {
-    match answer {
-        CloseAnswer::Closed => 0,
-        CloseAnswer::Unusable => 10,
-        CloseAnswer::Purchase => 8,
-        CloseAnswer::Readings => 6,
-        CloseAnswer::Energy => 9,
-    }
-}
-
 // close P D T
 pub fn close(numbers: Numbers, state: State, readings: &[u16]) -> State {
     if numbers.count != 3 {
@@ -77,19 +66,18 @@ pub fn close(numbers: Numbers, state: State, readings: &[u16]) -> State {
     let closed = ledger::close_period(given, p, readings, delivered, taken);
     let answer = closed.answer;
     let record = closed.record;
-    write_line(b"close", close_number(answer));
+    write_line(b"close", ledger::close_number(answer) as u64);
     write_record(record);
     hold(with_record(state, record), 0)
 }
 
 fn write_energy(answer: PeriodEnergy) {
+    let number = energy::period::number(answer) as u64;
     match answer {
         PeriodEnergy::Bounds { low, high } => {
-            write_three(b"energy", 0, low as u64, high as u64);
+            write_three(b"energy", number, low as u64, high as u64);
         }
-        PeriodEnergy::Quantity => write_three(b"energy", 1, 0, 0),
-        PeriodEnergy::Curve => write_three(b"energy", 5, 0, 0),
-        PeriodEnergy::Readings => write_three(b"energy", 6, 0, 0),
+        _ => write_three(b"energy", number, 0, 0),
     }
 }
 

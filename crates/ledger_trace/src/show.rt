@@ -27,14 +27,6 @@ pub fn write_signed(z: i64) {
     }
 }
 
-fn write_bit(b: bool) {
-    if b {
-        write(b" 1");
-    } else {
-        write(b" 0");
-    }
-}
-
 // A line with a word and one number.
 pub fn write_line(word: &[u8], n: u64) {
     write(word);
@@ -86,27 +78,4 @@ pub fn write_record(record: Record) {
     write_small(record.delivered);
     write_small(record.taken);
     write(b"\n");
-}
-
-fn write_row(r: monitor::Row) {
-    write(b"row");
-    write_small(r.period);
-    write_small(r.bound);
-    write_signed(r.start);
-    write_signed(r.end);
-    write_number(r.sched);
-    write_number(r.back);
-    write_number(r.left);
-    write_bit(r.flag);
-    write_bit(r.verdict);
-    write(b"\n");
-}
-
-pub fn write_rows(rows: [monitor::Row; 8]) {
-    let mut i: usize = 0;
-    while i < 8 {
-        let r = rows[i];
-        write_row(r);
-        i += 1;
-    }
 }

@@ -74,11 +74,11 @@ unfoldable pub monitoring : Quantities → List ℕ → List ℕ → Answer (Lis
 monitoring q bounds reported = checked (monitorCauses q bounds reported) (rowsOf (REV q) (ER q) bounds reported)
 
 -- the number, or the rows, of each case of the code's answer
-abbrev pub numbered : MonitorAnswer → List Row → Answer (List Row)
-numbered Rows rows = given rows
-numbered Quantity rows = refused 1
-numbered Bound rows = refused 7
-numbered Reported rows = refused 11
+abbrev pub numbered : {A : Type 0} → MonitorAnswer → A → Answer A
+numbered Rows a = given a
+numbered Quantity a = refused 1
+numbered Bound a = refused 7
+numbered Reported a = refused 11
 
 abbrev pub answerOf : Monitored → Answer (List Row)
 answerOf m = numbered (m .answer) (m .rows)

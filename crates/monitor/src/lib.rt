@@ -1,9 +1,9 @@
 // The monitor: eight bounds and eight reported energies of one direction give eight rows with a verdict each.
 ghost use mathlib.Core.Path.{_≡_};
 ghost use lib.Dec.{ltb};
-ghost use Rattle.common.specs.Answer.{orBlank};
+ghost use Rattle.common.specs.Answer.{numberOf, orBlank};
 ghost use Rattle.common.specs.Lists.{some};
-ghost use Rattle.monitor.specs.Monitor.{judged, rowsOf, zeroRow, zeroRows, answerOf, monitoring};
+ghost use Rattle.monitor.specs.Monitor.{judged, rowsOf, zeroRow, zeroRows, numbered, answerOf, monitoring};
 use terms::DirectionTerms;
 use terms::Quantities;
 
@@ -124,5 +124,17 @@ pub fn monitor(q: Quantities, bounds: [u32; 8], reported: [u32; 8]) -> Monitored
     Monitored {
         answer: MonitorAnswer::Rows,
         rows: rows_of(t.rev as u32, t.er as u32, bounds, reported),
+    }
+}
+
+// The number of an answer, 0 for rows.
+pub fn number(answer: MonitorAnswer) -> u32
+    ensures { λ r. ⌜ r ≡ numberOf {A = Unit} (numbered answer tt) ⌝ }
+{
+    match answer {
+        MonitorAnswer::Rows => 0,
+        MonitorAnswer::Quantity => 1,
+        MonitorAnswer::Bound => 7,
+        MonitorAnswer::Reported => 11,
     }
 }

@@ -8,6 +8,7 @@ use energy::curve::Curves;
 use energy::curve::containment_curve;
 use energy::curve::regulation_curve;
 use energy::period::PeriodEnergy;
+use energy::period::number;
 use energy::period::period_energy;
 use libc::STDOUT_FILENO;
 use terms::Quantities;
@@ -29,14 +30,13 @@ fn write_bounds(readings: &[u16]) {
         dm: regulation_curve(),
         dr: regulation_curve(),
     };
-    match period_energy(q, q, curves, readings) {
+    let answer = period_energy(q, q, curves, readings);
+    match answer {
         PeriodEnergy::Bounds { low, high } => {
             write_number(low as u64);
             write_number(high as u64);
         }
-        PeriodEnergy::Quantity => write_number(1),
-        PeriodEnergy::Curve => write_number(5),
-        PeriodEnergy::Readings => write_number(6),
+        _ => write_number(number(answer) as u64),
     }
 }
 

@@ -5,7 +5,7 @@ use mathlib.Core.List.{List, [], _∷_, _++_}
 use Prim.Native.Nat.{ℕ}
 use lib.Dec.{ltb}
 use lib.ListN.{length, drop}
-use Rattle.common.specs.Answer.{Answer, refused, given, numberOf, Cause, cause, checked}
+use Rattle.common.specs.Answer.{Answer, refused, given, Cause, cause, checked}
 use Rattle.terms.specs.Terms.{REV, ER}
 use Rattle.monitor.specs.Monitor.{monitorCauses, rowsOf}
 use Rattle.report.specs.Input.{wellFormed, inputOf}
@@ -29,14 +29,10 @@ unfoldable pub reporting : List ℕ → List ℕ → Answer (List ℕ)
 reporting input output = checked (reportCauses input output) (written (inputOf input) output)
 
 -- the number, or what is given, of each case of the code's answer
-abbrev pub answerOf : {A : Type 0} → ReportAnswer → A → Answer A
-answerOf Written a = given a
-answerOf Malformed a = refused 13
-answerOf Quantity a = refused 1
-answerOf Bound a = refused 7
-answerOf Reported a = refused 11
-answerOf Short a = refused 14
-
--- a refusal's number, 0 where the table is written
-abbrev pub answerNumber : ReportAnswer → ℕ
-answerNumber answer = numberOf {A = Unit} (answerOf answer tt)
+abbrev pub numbered : {A : Type 0} → ReportAnswer → A → Answer A
+numbered Written a = given a
+numbered Malformed a = refused 13
+numbered Quantity a = refused 1
+numbered Bound a = refused 7
+numbered Reported a = refused 11
+numbered Short a = refused 14

@@ -5,7 +5,7 @@ ghost use mathlib.Core.List.{_++_};
 ghost use Prim.Native.Nat.{_+_, _*_, _/_, _%_, _<_, _≤_};
 ghost use lib.Dec.{ltb};
 ghost use lib.ListN.{length, take, drop};
-ghost use Rattle.common.specs.Answer.{orBlank};
+ghost use Rattle.common.specs.Answer.{numberOf, orBlank};
 ghost use Rattle.report.specs.Number as Number;
 ghost use Rattle.report.specs.Input.{headerOf, energiesOf, energiesAt, noInput, inputOf};
 ghost use Rattle.report.specs.Output as Output;
@@ -337,7 +337,7 @@ pub fn table_of(rows: [Row; 8]) -> [u8; 488]
 
 // Reads the input, monitors it and writes the table at the start of the output: refusals 13, 1, 7, 11, 14.
 pub fn report(input: &[u8], output: &mut [u8]) -> ReportAnswer
-    ensures { λ r. ⌜ (Report.answerOf r (now (output .exit)) ≡ Report.reporting (now (input .entry)) (now (output .entry))) × (now (output .exit) ≡ orBlank (now (output .entry)) (Report.reporting (now (input .entry)) (now (output .entry)))) ⌝ }
+    ensures { λ r. ⌜ (Report.numbered r (now (output .exit)) ≡ Report.reporting (now (input .entry)) (now (output .entry))) × (now (output .exit) ≡ orBlank (now (output .entry)) (Report.reporting (now (input .entry)) (now (output .entry)))) ⌝ }
 {
     let p = parse(input);
     if !p.good {
@@ -365,7 +365,7 @@ pub fn report(input: &[u8], output: &mut [u8]) -> ReportAnswer
 
 // The number of an answer, 0 for the table.
 pub fn number(answer: ReportAnswer) -> u32
-    ensures { λ r. ⌜ r ≡ Report.answerNumber answer ⌝ }
+    ensures { λ r. ⌜ r ≡ numberOf {A = Unit} (Report.numbered answer tt) ⌝ }
 {
     match answer {
         ReportAnswer::Written => 0,

@@ -1,5 +1,6 @@
 // The services of Dynamic Response with their constants, the terms of a direction, and the terms check.
 ghost use mathlib.Core.Path.{_≡_};
+ghost use Rattle.common.specs.Answer.{numberOf};
 ghost use Rattle.terms.specs.Terms.{directionTerms, above1000, power, limitBroken, limitsBroken, answerOf, termsCheck};
 
 pub struct Containment {}
@@ -125,4 +126,15 @@ pub fn check(t: Terms) -> TermsAnswer
         return TermsAnswer::Power;
     }
     TermsAnswer::Good
+}
+
+// The number of an answer, 0 for good terms.
+pub fn number(answer: TermsAnswer) -> u32
+    ensures { λ r. ⌜ r ≡ numberOf (answerOf answer) ⌝ }
+{
+    match answer {
+        TermsAnswer::Good => 0,
+        TermsAnswer::Quantity => 1,
+        TermsAnswer::Power => 2,
+    }
 }

@@ -4,26 +4,18 @@ use borrow.Author.Needs.{needs, sfits-of}
 use mir.Facts.{toZ-ofZ}
 use Rattle.terms.specs.Terms.{answerOf, termsCheck}
 use Rattle.host.specs.Convention.{coded, done}
+use Rattle.host.proofs.Numbers.{coded-number}
 use Rattle.host.proofs.soe_terms.Statement.{statement}
 use Rattle.host.proofs.soe_terms.Tie as tie
 
 check-requires : tie.Need-check-requires
 check-requires c κs = search needs
 
-enum-told : tie.Need-enum-told
-enum-told c = search needs
-
-enum-told-2 : tie.Need-enum-told-2
-enum-told-2 c = search needs
+number-requires : tie.Need-number-requires
+number-requires c κs = search needs
 
 refusal-requires : tie.Need-refusal-requires
 refusal-requires c κs = search needs
-
-enum-told-3 : tie.Need-enum-told-3
-enum-told-3 c = search needs
-
-refusal-requires-2 : tie.Need-refusal-requires-2
-refusal-requires-2 c κs = search needs
 
 answered : (c : tie.After-check) →
     let a = c .before .args in
@@ -39,24 +31,9 @@ answered c =
     ap (coded done) (rw (toZ-ofZ (s .fits .export-limit), toZ-ofZ (s .fits .import-limit)) at (c .check .ensures))
 
 returns : tie.Need-returns
-returns c = rw (c .enum-told .given .1) at (answered (c .before .before))
-
-returns-2 : tie.Need-returns-2
-returns-2 c = rw (toZ-ofZ {z = c .refusal .result} (sfits-of (c .refusal .ok)), c .refusal .ensures) (rw (c .before .enum-told2 .given .1) at (answered (c .before .before .before)))
-
-returns-3 : tie.Need-returns-3
-returns-3 c = rw (toZ-ofZ {z = c .refusal2 .result} (sfits-of (c .refusal2 .ok)), c .refusal2 .ensures) (rw (c .before .enum-told3 .given .1) at (answered (c .before .before .before)))
+returns c =
+    let s = c .refusal in
+    rw (toZ-ofZ {z = s .result} (sfits-of (s .ok)), s .ensures, c .before .number .ensures, coded-number) (answered (c .before .before))
 
 pub soe-terms-spec : {M : Type 1} → statement M
-soe-terms-spec =
-    tie.close
-    (tie.spec
-    check-requires
-    enum-told
-    enum-told-2
-    refusal-requires
-    enum-told-3
-    refusal-requires-2
-    returns
-    returns-2
-    returns-3)
+soe-terms-spec = tie.close (tie.spec check-requires number-requires refusal-requires returns)
