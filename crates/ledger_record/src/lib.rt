@@ -124,7 +124,7 @@ fn first_record(terms: Terms, curves: Curves, size: u32, first: u32) -> Record
 }
 
 // All zero.
-fn blank_record() -> Record
+pub fn blank_record() -> Record
     ensures { λ r. ⌜ r ≡ blankRecord ⌝ }
 {
     let none = Quantities {

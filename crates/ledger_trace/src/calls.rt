@@ -14,7 +14,6 @@ use crate::text::value;
 use crate::text::value_u16;
 use crate::text::value_u32;
 use energy::curve::Curve;
-use energy::curve::Curves;
 use energy::curve::Point;
 use ledger::ProposeAnswer;
 use terms::Quantities;
@@ -49,16 +48,6 @@ fn curve_of(numbers: Numbers) -> Curve {
     }
 }
 
-fn with_curve(given: Curves, service: u32, curve: Curve) -> Curves {
-    let mut curves = given;
-    match service {
-        1 => curves.dc = curve,
-        2 => curves.dm = curve,
-        _ => curves.dr = curve,
-    }
-    curves
-}
-
 // curve S D1 H1 ..
 pub fn set_curve(numbers: Numbers, state: State) -> State {
     let count = numbers.count;
@@ -69,8 +58,14 @@ pub fn set_curve(numbers: Numbers, state: State) -> State {
     if (service == 0) | !are_within(numbers, 0, 1, 3) | !are_within(numbers, 1, count, 65_535) {
         return refuse(state);
     }
-    let curves = state.curves;
-    with_curves(state, with_curve(curves, service, curve_of(numbers)))
+    let mut curves = state.curves;
+    let curve = curve_of(numbers);
+    match service {
+        1 => curves.dc = curve,
+        2 => curves.dm = curve,
+        _ => curves.dr = curve,
+    }
+    with_curves(state, curves)
 }
 
 // The quantities of the low direction of a line.

@@ -12,87 +12,66 @@ mod text;
 use libc::STDIN_FILENO;
 use state::State;
 use text::Numbers;
-use text::is_word;
 
-// The number of a word that needs no readings, 0 where none is.
-fn plain_word(word: &[u8]) -> u32 {
-    if is_word(word, b"check") {
-        return 1;
-    }
-    if is_word(word, b"propose") {
-        return 2;
-    }
-    if is_word(word, b"open") {
-        return 3;
-    }
-    if is_word(word, b"put") {
-        return 4;
-    }
-    if is_word(word, b"curve") {
-        return 5;
-    }
-    if is_word(word, b"monitor") {
-        return 6;
-    }
-    if is_word(word, b"clear") {
-        return 7;
-    }
-    0
-}
+// The words, as `text::word_number` gives them.
+const CHECK: u64 = 0x1_63_68_65_63_6b;
 
-// The number of a word that looks at the readings, 0 where none is.
-fn reading_word(word: &[u8]) -> u32 {
-    if is_word(word, b"close") {
-        return 1;
-    }
-    if is_word(word, b"energy") {
-        return 2;
-    }
-    if is_word(word, b"block") {
-        return 3;
-    }
-    if is_word(word, b"part") {
-        return 4;
-    }
-    0
-}
+const PROPOSE: u64 = 0x1_70_72_6f_70_6f_73_65;
 
-fn call_plain(word: u32, numbers: Numbers, state: State) -> State {
+const OPEN: u64 = 0x1_6f_70_65_6e;
+
+const PUT: u64 = 0x1_70_75_74;
+
+const CURVE: u64 = 0x1_63_75_72_76_65;
+
+const MONITOR: u64 = 0x1_6d_6f_6e_69_74_6f_72;
+
+const CLEAR: u64 = 0x1_63_6c_65_61_72;
+
+const READ: u64 = 0x1_72_65_61_64;
+
+const CLOSE: u64 = 0x1_63_6c_6f_73_65;
+
+const ENERGY: u64 = 0x1_65_6e_65_72_67_79;
+
+const BLOCK: u64 = 0x1_62_6c_6f_63_6b;
+
+const PART: u64 = 0x1_70_61_72_74;
+
+fn call_plain(word: u64, numbers: Numbers, state: State) -> State {
     match word {
-        1 => calls::check(numbers, state),
-        2 => calls::propose(numbers, state),
-        3 => calls::open(numbers, state),
-        4 => make::put(numbers, state),
-        5 => calls::set_curve(numbers, state),
-        6 => calls::watch(numbers, state),
-        7 => readings::clear(numbers, state),
+        CHECK => calls::check(numbers, state),
+        PROPOSE => calls::propose(numbers, state),
+        OPEN => calls::open(numbers, state),
+        PUT => make::put(numbers, state),
+        CURVE => calls::set_curve(numbers, state),
+        MONITOR => calls::watch(numbers, state),
+        CLEAR => readings::clear(numbers, state),
         _ => state::refuse(state),
     }
 }
 
-fn call_over(word: u32, numbers: Numbers, state: State, held: &[u16]) -> State {
+fn call_over(word: u64, numbers: Numbers, state: State, held: &[u16]) -> State {
     match word {
-        1 => readings::close(numbers, state, held),
-        2 => readings::bound(numbers, state, held),
-        3 => readings::block(numbers, state, held),
-        4 => readings::part(numbers, state, held),
-        _ => state::refuse(state),
+        CLOSE => readings::close(numbers, state, held),
+        ENERGY => readings::bound(numbers, state, held),
+        BLOCK => readings::block(numbers, state, held),
+        _ => readings::part(numbers, state, held),
     }
 }
 
-fn call(word: &[u8], numbers: Numbers, state: State, space: &mut [u16]) -> State {
-    if is_word(word, b"read") {
+fn call(word: u64, numbers: Numbers, state: State, space: &mut [u16]) -> State {
+    if word == READ {
         return readings::read(numbers, state, space);
     }
-    let plain = plain_word(word);
-    if 0 < plain {
-        return call_plain(plain, numbers, state);
+    if !((word == CLOSE) | (word == ENERGY) | (word == BLOCK) | (word == PART)) {
+        return call_plain(word, numbers, state);
     }
     let held = state.held;
     if space.len() < held {
         return state::refuse(state);
     }
-    call_over(reading_word(word), numbers, state, &space[..held])
+    call_over(word, numbers, state, &space[..held])
 }
 
 fn take_line(line: &[u8], state: State, space: &mut [u16]) -> State {
@@ -104,7 +83,7 @@ fn take_line(line: &[u8], state: State, space: &mut [u16]) -> State {
     if !numbers.good {
         return state::refuse(state);
     }
-    call(&line[..end], numbers, state, space)
+    call(text::word_number(&line[..end]), numbers, state, space)
 }
 
 // The number of the first malformed line, after which none is read; 0 where none is.

@@ -25,69 +25,23 @@ fn with_field(given: Record, which: u32, n: u32) -> Record {
     record
 }
 
-fn with_bound(entries: Entries, i: usize, bound: u32) -> Entries {
-    let mut bounds = entries.bounds;
-    let starts = entries.starts;
-    let scheds = entries.scheds;
-    if i < 8 {
-        bounds[i] = bound;
-    }
-    Entries {
-        bounds,
-        starts,
-        scheds,
-    }
-}
-
-fn with_start(entries: Entries, i: usize, start: i64) -> Entries {
-    let bounds = entries.bounds;
-    let mut starts = entries.starts;
-    let scheds = entries.scheds;
-    if i < 8 {
-        starts[i] = start;
-    }
-    Entries {
-        bounds,
-        starts,
-        scheds,
-    }
-}
-
-fn with_sched(entries: Entries, i: usize, sched: u64) -> Entries {
-    let bounds = entries.bounds;
-    let starts = entries.starts;
-    let mut scheds = entries.scheds;
-    if i < 8 {
-        scheds[i] = sched;
-    }
-    Entries {
-        bounds,
-        starts,
-        scheds,
-    }
-}
-
 // The bound (1), start (2) or schedule (else) of the place i.
 fn with_entry(entries: Entries, which: u32, i: usize, numbers: Numbers) -> Entries {
-    match which {
-        1 => with_bound(entries, i, value_u32(numbers, 1)),
-        2 => with_start(entries, i, value(numbers, 1)),
-        _ => with_sched(entries, i, signed::above_zero(value(numbers, 1))),
+    let mut bounds = entries.bounds;
+    let mut starts = entries.starts;
+    let mut scheds = entries.scheds;
+    if i < 8 {
+        match which {
+            1 => bounds[i] = value_u32(numbers, 1),
+            2 => starts[i] = value(numbers, 1),
+            _ => scheds[i] = signed::above_zero(value(numbers, 1)),
+        }
     }
-}
-
-fn with_low(given: Record, which: u32, i: usize, numbers: Numbers) -> Record {
-    let mut record = given;
-    let entries = given.low;
-    record.low = with_entry(entries, which, i, numbers);
-    record
-}
-
-fn with_high(given: Record, which: u32, i: usize, numbers: Numbers) -> Record {
-    let mut record = given;
-    let entries = given.high;
-    record.high = with_entry(entries, which, i, numbers);
-    record
+    Entries {
+        bounds,
+        starts,
+        scheds,
+    }
 }
 
 // The greatest value of a number of the record, where it has one below 2^63.
@@ -110,19 +64,21 @@ fn is_start(key: u32) -> bool {
     (tens == 2) | (tens == 5)
 }
 
-fn made(record: Record, key: u32, numbers: Numbers) -> Record {
+fn made(given: Record, key: u32, numbers: Numbers) -> Record {
     if key < 10 {
-        return with_field(record, key, value_u32(numbers, 1));
+        return with_field(given, key, value_u32(numbers, 1));
     }
-    let ones = (key % 10) as usize;
-    if ones == 0 {
+    let mut record = given;
+    let low = given.low;
+    let high = given.high;
+    let place = (key % 10) as usize;
+    if place == 0 {
         return record;
     }
     if key < 40 {
-        return with_low(record, key / 10, ones - 1, numbers);
-    }
-    if key < 70 {
-        return with_high(record, key / 10 - 3, ones - 1, numbers);
+        record.low = with_entry(low, key / 10, place - 1, numbers);
+    } else {
+        record.high = with_entry(high, key / 10 - 3, place - 1, numbers);
     }
     record
 }

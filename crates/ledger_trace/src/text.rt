@@ -33,18 +33,18 @@ pub fn find(text: &[u8], from: usize, byte: u8) -> usize
     at
 }
 
-pub fn is_word(line: &[u8], word: &[u8]) -> bool {
-    if line.len() != word.len() {
-        return false;
+// A word's bytes after a 1, as one number; 0 for a word of more than seven.
+pub fn word_number(word: &[u8]) -> u64 {
+    if 7 < word.len() {
+        return 0;
     }
+    let mut n: u64 = 1;
     let mut i: usize = 0;
     while i < word.len() {
-        if line[i] != word[i] {
-            return false;
-        }
+        n = (n << 8) | word[i] as u64;
         i += 1;
     }
-    true
+    n
 }
 
 fn is_digit(byte: u8) -> bool {

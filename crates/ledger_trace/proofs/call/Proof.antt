@@ -5,12 +5,6 @@ use borrow.Author.Needs.{needs}
 use Rattle.ledger_trace.proofs.call.Statement.{statement}
 use Rattle.ledger_trace.proofs.call.Tie as tie
 
-slice-aggregate-is-word : tie.Need-slice-aggregate-is-word
-slice-aggregate-is-word c = search needs
-
-is-word-requires : tie.Need-is-word-requires
-is-word-requires c κs = search needs
-
 read-requires : tie.Need-read-requires
 read-requires c κs = search needs
 
@@ -19,9 +13,6 @@ same-length c = search needs
 
 returns : tie.Need-returns
 returns c = search needs
-
-plain-word-requires : tie.Need-plain-word-requires
-plain-word-requires c κs = search needs
 
 call-plain-requires : tie.Need-call-plain-requires
 call-plain-requires c κs = search needs
@@ -34,9 +25,6 @@ refuse-requires c κs = search needs
 
 returns-3 : tie.Need-returns-3
 returns-3 c = search needs
-
-reading-word-requires : tie.Need-reading-word-requires
-reading-word-requires c κs = search needs
 
 slice-reshare-prefix-call-over : tie.Need-slice-reshare-prefix-call-over
 slice-reshare-prefix-call-over c = search needs
@@ -57,17 +45,13 @@ pub call-spec : {M : Type 1} → statement M
 call-spec =
     tie.close
     (tie.spec
-    slice-aggregate-is-word
-    is-word-requires
     read-requires
     same-length
     returns
-    plain-word-requires
     call-plain-requires
     returns-2
     refuse-requires
     returns-3
-    reading-word-requires
     slice-reshare-prefix-call-over
     slice-aggregate-call-over
     call-over-requires

@@ -23,8 +23,11 @@ refuse-requires-2 c κs = search needs
 returns-2 : tie.Need-returns-2
 returns-2 c = search needs
 
-slice-aggregate-call : tie.Need-slice-aggregate-call
-slice-aggregate-call c = simp length-take (omega arith)
+slice-aggregate-word-number : tie.Need-slice-aggregate-word-number
+slice-aggregate-word-number c = simp length-take (omega arith)
+
+word-number-requires : tie.Need-word-number-requires
+word-number-requires c κs = search needs
 
 call-requires : tie.Need-call-requires
 call-requires c κs = search needs
@@ -45,7 +48,8 @@ take-line-spec =
     numbers-from-requires
     refuse-requires-2
     returns-2
-    slice-aggregate-call
+    slice-aggregate-word-number
+    word-number-requires
     call-requires
     same-length
     returns-3)
