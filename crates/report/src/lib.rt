@@ -7,7 +7,7 @@ ghost use lib.Dec.{ltb};
 ghost use lib.ListN.{length, take, drop};
 ghost use Rattle.common.specs.Answer.{numberOf, orBlank};
 ghost use Rattle.report.specs.Number as Number;
-ghost use Rattle.report.specs.Input.{headerOf, energiesOf, energiesAt, noInput, inputOf};
+ghost use Rattle.report.specs.Input.{column, headerOf, energiesOf, energiesAt, noInput, inputOf};
 ghost use Rattle.report.specs.Output as Output;
 ghost use Rattle.report.specs.Report as Report;
 use monitor::Row;
@@ -94,21 +94,30 @@ fn read_number(cell: &[u8]) -> Field
     f
 }
 
+// Number i of a line, counted from 0.
+fn number_in(line: &[u8], i: usize) -> Field
+    requires { ⌜ 9 * i + 9 ≤ length (now line) ⌝ }
+    ensures { λ r. ⌜ r ≡ column i (now (line .entry)) ⌝ }
+{
+    let at = 9 * i;
+    read_number(&line[at..at + 9])
+}
+
 // Line 1, with its line feed.
 fn read_header(line: &[u8]) -> Header
     requires { ⌜ length (now line) ≡ 37 ⌝ }
     ensures { λ r. ⌜ r ≡ headerOf (now (line .entry)) ⌝ }
 {
-    let Field::Number(direction) = read_number(&line[0..9]) else {
+    let Field::Number(direction) = number_in(line, 0) else {
         return Header::Malformed;
     };
-    let Field::Number(dc) = read_number(&line[9..18]) else {
+    let Field::Number(dc) = number_in(line, 1) else {
         return Header::Malformed;
     };
-    let Field::Number(dm) = read_number(&line[18..27]) else {
+    let Field::Number(dm) = number_in(line, 2) else {
         return Header::Malformed;
     };
-    let Field::Number(dr) = read_number(&line[27..36]) else {
+    let Field::Number(dr) = number_in(line, 3) else {
         return Header::Malformed;
     };
     if (line[36] == 10) & ((direction == 1) | (direction == 2)) {
@@ -122,10 +131,10 @@ fn read_line(line: &[u8]) -> Line
     requires { ⌜ length (now line) ≡ 19 ⌝ }
     ensures { λ r. ⌜ r ≡ energiesOf (now (line .entry)) ⌝ }
 {
-    let Field::Number(bound) = read_number(&line[0..9]) else {
+    let Field::Number(bound) = number_in(line, 0) else {
         return Line::Malformed;
     };
-    let Field::Number(reported) = read_number(&line[9..18]) else {
+    let Field::Number(reported) = number_in(line, 1) else {
         return Line::Malformed;
     };
     if line[18] == 10 {
