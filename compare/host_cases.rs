@@ -231,22 +231,29 @@ pub fn good_direction(random: &mut Random) -> Direction {
     }
 }
 
-/// Eight bounds of 0 to 500 × Q: full, none, around what a period recovers, or anything.
+/// Eight bounds of 0 to 500 × Q: full, none, around what a period recovers, or anything; sometimes one that brings its period's
+/// end to 0 or a kWh beside it.
 pub fn good_bounds(random: &mut Random, direction: &Direction) -> [Int; 8] {
     let most = direction.greatest_bound();
     let style = random.below(6);
-    [(); 8].map(|()| match style {
+    let mut bounds = [(); 8].map(|()| match style {
         0 => most,
         1 => random.pick(&[0, most]),
         2 => random.near(&[direction.er()]).clamp(0, most),
         3 => random.between(0, direction.er().min(most)),
         4 => random.within(0, most),
         _ => random.pick(&[0, 0, 0, most / 2]),
-    })
+    });
+    if random.once_in(3) {
+        let i = random.below(8);
+        let row = model::requirement(direction.rev(), direction.er(), &bounds)[i];
+        bounds[i] = random.near(&[row.start + row.back]).clamp(0, most);
+    }
+    bounds
 }
 
 /// Eight reported energies at the starts, a kWh beside them, or anything.
-pub fn good_reported(random: &mut Random, direction: &Direction, bounds: &[Int; 8]) -> [Int; 8] {
+fn good_reported(random: &mut Random, direction: &Direction, bounds: &[Int; 8]) -> [Int; 8] {
     let rows = model::requirement(direction.rev(), direction.er(), bounds);
     let mut reported = [0; 8];
     for i in 0..8 {

@@ -39,7 +39,6 @@ fn main() {
         host_cases::damaged_random_report(random, tally);
         for _ in 0..4 {
             runs.add(trace_cases::energy(random), tally);
-            runs.add(trace_cases::monitor(random), tally);
             runs.add(trace_cases::opening(random), tally);
             runs.add(trace_cases::list(random), tally);
             runs.add(trace_cases::made_up(random), tally);

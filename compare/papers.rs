@@ -69,8 +69,8 @@ pub fn compare(runs: &mut Runs, tally: &mut Tally) {
     report(tally);
     terms(tally);
     quantity(tally);
-    runs.add(table(&TABLE_6, Direction([0, 0, 100]), 1, tally), tally);
-    runs.add(table(&TABLE_8, Direction([40, 0, 0]), 2, tally), tally);
+    table(&TABLE_6, Direction([0, 0, 100]), 1, tally);
+    table(&TABLE_8, Direction([40, 0, 0]), 2, tally);
     runs.add(energy(), tally);
     runs.add(ledger(), tally);
 }
@@ -160,10 +160,9 @@ fn quantity(tally: &mut Tally) {
     }
 }
 
-/// The rows of a table in kWh by the monitor and by the report, once with reported energies that just pass and once with a
-/// kWh less, where a start is above 0.
-fn table(table: &Table, direction: Direction, number: Int, tally: &mut Tally) -> Script {
-    let mut script = Script::new(TOPIC);
+/// The rows of a table in kWh by the report, once with reported energies that just pass and once with a kWh less, where a start
+/// is above 0.
+fn table(table: &Table, direction: Direction, number: Int, tally: &mut Tally) {
     for less in [0, 1] {
         let (mut bounds, mut reported, mut rows) = ([0; 8], [0; 8], [[0; 9]; 8]);
         for (i, row) in table.iter().enumerate() {
@@ -175,17 +174,15 @@ fn table(table: &Table, direction: Direction, number: Int, tally: &mut Tally) ->
             let verdict = Int::from(less == 0 || start <= 0);
             rows[i] = [period, bound, start, end, sched, back, left, flag, verdict];
         }
-        script.monitor(&direction, &bounds, &reported);
-        script.printed_rows(&rows);
-
         let [dc, dm, dr] = direction.0;
         let mut input = format!("{number:9}{dc:9}{dm:9}{dr:9}\n");
         for i in 0..8 {
             input += &format!("{:9}{:9}\n", bounds[i], reported[i]);
         }
+        let text = rows.iter().map(|row| model::row_text(row) + "\n").collect();
+        printed("table", Ok(text), model::report(input.as_bytes(), 488));
         host::report(TOPIC, input.as_bytes(), 488, tally);
     }
-    script
 }
 
 /// "Regulation, 100 MW: 49,985 gives 0 kW; 49,984 gives 541; 49,800 gives 100,000." "All 3,600 at 49,984: 271 kWh."

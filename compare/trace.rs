@@ -89,13 +89,6 @@ impl Script {
         printed(&self.text, line, &self.lines.last().unwrap().text);
     }
 
-    /// The model's last eight lines are the rows that a paper prints.
-    pub fn printed_rows(&self, rows: &[[Int; 9]; 8]) {
-        for (line, row) in self.lines[self.lines.len() - 8..].iter().zip(rows) {
-            printed(&self.text, &model::row_text(row), &line.text);
-        }
-    }
-
     /// The services are counted from 0 here, from 1 in the text.
     pub fn curve(&mut self, service: usize, curve: &Curve) {
         let mut numbers = vec![service as Int + 1];
@@ -201,22 +194,6 @@ impl Script {
         let text = format!("part {}{}", part.len(), join(&ends));
         let number = if part.is_empty() { 6 } else { 0 };
         self.push(text, Some(("part", number)));
-    }
-
-    pub fn monitor(&mut self, direction: &Direction, bounds: &[Int; 8], reported: &[Int; 8]) {
-        let mut numbers = direction.0.to_vec();
-        numbers.extend(bounds);
-        numbers.extend(reported);
-        self.feed("monitor", &numbers);
-        match model::monitor(direction, bounds, reported) {
-            Err(number) => self.expect("monitor", number, &[]),
-            Ok(rows) => {
-                self.expect("monitor", 0, &[]);
-                for row in &rows {
-                    self.push(model::row_text(row), None);
-                }
-            }
-        }
     }
 
     /// Text that is not as the format says, after which nothing is read.

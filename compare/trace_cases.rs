@@ -1,8 +1,6 @@
-//! Cases for ledger_trace: period energy, blocks and parts, the monitor, lists of ledger calls, made-up records.
+//! Cases for ledger_trace: period energy, blocks and parts, lists of ledger calls, made-up records.
 
-use crate::host_cases::{
-    any_direction, any_terms, good_bounds, good_direction, good_reported, rising,
-};
+use crate::host_cases::{any_direction, any_terms, good_bounds, good_direction, rising};
 use crate::model::{Curve, Direction, Entries, Int, Record, Terms};
 use crate::papers::{containment, regulation};
 use crate::random::Random;
@@ -338,31 +336,6 @@ pub fn block(random: &mut Random) -> Script {
     script.read_all(&readings);
     script.block();
     parts(&mut script);
-    script
-}
-
-// Monitor
-
-pub fn monitor(random: &mut Random) -> Script {
-    let mut script = Script::new("monitor");
-    for _ in 0..50 {
-        let mut direction = good_direction(random);
-        let mut bounds = good_bounds(random, &direction);
-        let mut reported = good_reported(random, &direction, &bounds);
-        for _ in 0..random.below(4) {
-            let i = random.below(8);
-            match random.below(3) {
-                0 => direction = any_direction(random),
-                1 => {
-                    bounds[i] = random
-                        .pick(&[0, direction.greatest_bound() + 1, MAX])
-                        .min(MAX)
-                }
-                _ => reported[i] = random.pick(&[9_999_999, 10_000_000, 10_000_001, MAX]),
-            }
-        }
-        script.monitor(&direction, &bounds, &reported);
-    }
     script
 }
 
@@ -898,8 +871,7 @@ pub fn malformed(runs: &mut Runs, tally: &mut Tally) {
         "part 4294967296\n",
         "energy 1 2 3 4 5\n",
         "energy 1 2 3 4 5 4294967296\n",
-        "monitor 1 2 3 1 1 1 1 1 1 1 1 1 1 1 1 1 1 1\n",
-        "monitor 1 2 3 1 1 1 1 1 1 1 1 1 1 1 1 1 1 1 4294967296\n",
+        "monitor 1 2 3 4\n",
     ];
     for text in texts {
         let mut script = Script::new("format");

@@ -1,4 +1,4 @@
-// The lines that call the ledger and the monitor, and the curves.
+// The lines that call the ledger, and the curves.
 use crate::show::write;
 use crate::show::write_line;
 use crate::show::write_number;
@@ -138,39 +138,5 @@ pub fn propose(numbers: Numbers, state: State) -> State {
     }
     write(b"\n");
     write_record(record);
-    state
-}
-
-fn eight_from(numbers: Numbers, from: usize) -> [u32; 8] {
-    let mut eight = [0u32; 8];
-    if from <= 16 {
-        let mut i: usize = 0;
-        while i < 8 {
-            eight[i] = value_u32(numbers, from + i);
-            i += 1;
-        }
-    }
-    eight
-}
-
-// monitor DC DM DR B1 .. B8 R1 .. R8
-pub fn watch(numbers: Numbers, state: State) -> State {
-    if numbers.count != 19 {
-        return refuse(state);
-    }
-    if !are_within(numbers, 0, 19, MOST) {
-        return refuse(state);
-    }
-    let bounds = eight_from(numbers, 3);
-    let reported = eight_from(numbers, 11);
-    let monitored = monitor::monitor(low_of(numbers), bounds, reported);
-    let answer = monitored.answer;
-    let number = monitor::number(answer);
-    let rows = monitored.rows;
-    write_line(b"monitor", number as u64);
-    if number == 0 {
-        let table = report::table_of(rows);
-        write(&table);
-    }
     state
 }

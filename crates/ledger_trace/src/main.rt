@@ -24,8 +24,6 @@ const PUT: u64 = 0x1_70_75_74;
 
 const CURVE: u64 = 0x1_63_75_72_76_65;
 
-const MONITOR: u64 = 0x1_6d_6f_6e_69_74_6f_72;
-
 const CLEAR: u64 = 0x1_63_6c_65_61_72;
 
 const READ: u64 = 0x1_72_65_61_64;
@@ -45,7 +43,6 @@ fn call_plain(word: u64, numbers: Numbers, state: State) -> State {
         OPEN => calls::open(numbers, state),
         PUT => make::put(numbers, state),
         CURVE => calls::set_curve(numbers, state),
-        MONITOR => calls::watch(numbers, state),
         CLEAR => readings::clear(numbers, state),
         _ => state::refuse(state),
     }

@@ -1,11 +1,11 @@
 // A line's word and numbers.
 ghost use Prim.Native.Nat.{_≤_};
 
-// The numbers after the word; good: they are written as they must be, and are fewer than 24.
+// The numbers after the word; good: they are written as they must be, and are fewer than 12.
 pub struct Numbers {
     pub good: bool,
     pub count: usize,
-    pub values: [i64; 24],
+    pub values: [i64; 12],
 }
 
 struct Digits {
@@ -129,10 +129,10 @@ fn number_at(line: &[u8], at: usize) -> Number {
 
 // The numbers from a place to the line's end.
 pub fn numbers_from(line: &[u8], from: usize) -> Numbers {
-    let mut values = [0i64; 24];
+    let mut values = [0i64; 12];
     let mut at = from;
     let mut count: usize = 0;
-    while count < 24 {
+    while count < 12 {
         if line.len() <= at {
             return Numbers {
                 good: true,
@@ -159,7 +159,7 @@ pub fn numbers_from(line: &[u8], from: usize) -> Numbers {
 // The value at a place, 0 past the last.
 pub fn value(numbers: Numbers, at: usize) -> i64 {
     let values = numbers.values;
-    if at < 24 {
+    if at < 12 {
         return values[at];
     }
     0

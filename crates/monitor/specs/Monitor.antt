@@ -73,7 +73,7 @@ monitorCauses q bounds reported =
 unfoldable pub monitoring : Quantities → List ℕ → List ℕ → Answer (List Row)
 monitoring q bounds reported = checked (monitorCauses q bounds reported) (rowsOf (REV q) (ER q) bounds reported)
 
--- the number, or the rows, of each case of the code's answer
+-- the number, or what is given, of each case of the code's answer
 abbrev pub numbered : {A : Type 0} → MonitorAnswer → A → Answer A
 numbered Rows a = given a
 numbered Quantity a = refused 1

@@ -5,10 +5,10 @@ use Rattle.ledger_trace.proofs.text.numbers_from.Statement.{statement}
 use Rattle.ledger_trace.proofs.text.numbers_from.Tie as tie
 
 abbrev Inv-loop : tie.InvT-loop
-Inv-loop line from values₀ at₀ count₀ values at count = count ≤ 24
+Inv-loop line from values₀ at₀ count₀ values at count = count ≤ 12
 
 abbrev μ-loop : tie.MeasureT-loop
-μ-loop line from values₀ at₀ count₀ values at count = 24 - count
+μ-loop line from values₀ at₀ count₀ values at count = 12 - count
 
 loop-holds : tie.Need-loop-holds Inv-loop μ-loop
 loop-holds c = search needs
