@@ -2,12 +2,12 @@
 ghost use mathlib.Core.Path.{_≡_};
 ghost use mathlib.Core.Bool.{cond, true, false};
 ghost use mathlib.Core.List.{_++_};
-ghost use Prim.Native.Nat.{_+_, _*_, _/_, _%_, _<_, _≤_};
+ghost use Prim.Native.Nat.{_+_, _*_, _/_, _%_, _^_, _<_, _≤_};
 ghost use lib.Dec.{ltb};
-ghost use lib.ListN.{length, take, drop};
+ghost use lib.ListN.{length, take, drop, set, replicate};
 ghost use Rattle.common.specs.Answer.{numberOf, orBlank};
 ghost use Rattle.report.specs.Number as Number;
-ghost use Rattle.report.specs.Input.{column, headerOf, energiesOf, energiesAt, noInput, inputOf};
+ghost use Rattle.report.specs.Input.{column, termsOf, energiesOf, lineAt, linesOf, noInput, inputOf};
 ghost use Rattle.report.specs.Output as Output;
 ghost use Rattle.report.specs.Report as Report;
 use monitor::Row;
@@ -34,14 +34,11 @@ enum Field {
     Malformed,
 }
 
-// Line 1.
-enum Header {
-    Terms { dc: u32, dm: u32, dr: u32 },
-    Malformed,
-}
-
-// One of lines 2 to 9.
+// What a line says.
 enum Line {
+    // Line 1.
+    Terms { dc: u32, dm: u32, dr: u32 },
+    // One of lines 2 to 9.
     Energies { bound: u32, reported: u32 },
     Malformed,
 }
@@ -104,30 +101,30 @@ fn number_in(line: &[u8], i: usize) -> Field
 }
 
 // Line 1, with its line feed.
-fn read_header(line: &[u8]) -> Header
+fn read_terms(line: &[u8]) -> Line
     requires { ⌜ length (now line) ≡ 37 ⌝ }
-    ensures { λ r. ⌜ r ≡ headerOf (now (line .entry)) ⌝ }
+    ensures { λ r. ⌜ r ≡ termsOf (now (line .entry)) ⌝ }
 {
     let Field::Number(direction) = number_in(line, 0) else {
-        return Header::Malformed;
+        return Line::Malformed;
     };
     let Field::Number(dc) = number_in(line, 1) else {
-        return Header::Malformed;
+        return Line::Malformed;
     };
     let Field::Number(dm) = number_in(line, 2) else {
-        return Header::Malformed;
+        return Line::Malformed;
     };
     let Field::Number(dr) = number_in(line, 3) else {
-        return Header::Malformed;
+        return Line::Malformed;
     };
     if (line[36] == 10) & ((direction == 1) | (direction == 2)) {
-        return Header::Terms { dc, dm, dr };
+        return Line::Terms { dc, dm, dr };
     }
-    Header::Malformed
+    Line::Malformed
 }
 
 // One of lines 2 to 9, with its line feed.
-fn read_line(line: &[u8]) -> Line
+fn read_energies(line: &[u8]) -> Line
     requires { ⌜ length (now line) ≡ 19 ⌝ }
     ensures { λ r. ⌜ r ≡ energiesOf (now (line .entry)) ⌝ }
 {
@@ -143,21 +140,37 @@ fn read_line(line: &[u8]) -> Line
     Line::Malformed
 }
 
-// Line n, from 2 on; malformed where the text has none.
+// Line n; malformed where the text has none.
 fn line_at(text: &[u8], n: usize) -> Line
-    ensures { λ r. ⌜ r ≡ energiesAt (now (text .entry)) n ⌝ }
+    ensures { λ r. ⌜ r ≡ lineAt (now (text .entry)) n ⌝ }
 {
-    if n < 2 {
+    if (n < 1) | (text.len() < 37) {
         return Line::Malformed;
     }
-    if text.len() < 56 {
+    if n == 1 {
+        return read_terms(&text[0..37]);
+    }
+    let before = n - 2;
+    if (text.len() - 37) / 19 <= before {
         return Line::Malformed;
     }
-    if (text.len() - 56) / 19 < n - 2 {
-        return Line::Malformed;
-    }
-    let at = 37 + 19 * (n - 2);
-    read_line(&text[at..at + 19])
+    let at = 37 + 19 * before;
+    read_energies(&text[at..at + 19])
+}
+
+fn no_lines() -> [Line; 9]
+    ensures { λ r. ⌜ r ≡ replicate 9 Line.Malformed ⌝ }
+{
+    [Line::Malformed; 9]
+}
+
+fn with_line(lines: [Line; 9], i: usize, line: Line) -> [Line; 9]
+    requires { ⌜ i < 9 ⌝ }
+    ensures { λ r. ⌜ r ≡ set lines i line ⌝ }
+{
+    let mut out = lines;
+    out[i] = line;
+    out
 }
 
 // A reader keeps the text and the next line's number together.
@@ -166,23 +179,36 @@ struct Reader<'a> {
     line: usize,
 }
 
-fn reader_at<'a>(text: &'a [u8], line: usize) -> Reader<'a>
-    ensures { λ r. ⌜ (r .text ≡ text .entry) × (r .line ≡ line) ⌝ }
+// Before line 1.
+fn reader_of<'a>(text: &'a [u8]) -> Reader<'a>
+    ensures { λ r. ⌜ (r .text ≡ text .entry) × (r .line ≡ 1) ⌝ }
 {
-    Reader { text, line }
+    Reader { text, line: 1 }
 }
 
-fn next_line<'a>(r: Reader<'a>) -> Line
-    ensures { λ l. ⌜ l ≡ energiesAt (now (r .entry .text)) (r .entry .line) ⌝ }
+// Gives the next line and moves the reader on.
+fn next_line<'s, 'a>(r: &'s mut Reader<'a>) -> Line
+    requires { ⌜ now r .line + 1 < 2 ^ 64 ⌝ }
+    ensures { λ l. ⌜ (l ≡ lineAt (now (now (r .entry) .text)) (now (r .entry) .line)) × (now (r .exit) .text ≡ now (r .entry) .text) × (now (r .exit) .line ≡ now (r .entry) .line + 1) ⌝ }
 {
-    line_at(r.text, r.line)
+    let line = line_at(r.text, r.line);
+    r.line = r.line + 1;
+    line
 }
 
-// The same for callers that hold a plain slice.
-fn energies_at(text: &[u8], line: usize) -> Line
-    ensures { λ l. ⌜ l ≡ energiesAt (now (text .entry)) line ⌝ }
+// The text's nine lines, by one reader.
+fn read_lines(text: &[u8]) -> [Line; 9]
+    ensures { λ r. ⌜ r ≡ linesOf (now (text .entry)) ⌝ }
 {
-    next_line(reader_at(text, line))
+    let mut reader = reader_of(text);
+    let mut lines = no_lines();
+    let mut i: usize = 0;
+    while i < 9 {
+        let line = next_line(&mut reader);
+        lines = with_line(lines, i, line);
+        i += 1;
+    }
+    lines
 }
 
 fn malformed() -> Input
@@ -206,17 +232,20 @@ fn parse(text: &[u8]) -> Input
     if text.len() != 189 {
         return malformed();
     }
-    let Header::Terms { dc, dm, dr } = read_header(&text[0..37]) else {
+    let lines = read_lines(text);
+    let first = lines[0];
+    let Line::Terms { dc, dm, dr } = first else {
         return malformed();
     };
     let mut bounds = [0u32; 8];
     let mut reported = [0u32; 8];
     let mut i: usize = 0;
     while i < 8 {
+        let line = lines[i + 1];
         let Line::Energies {
             bound: b,
             reported: r,
-        } = energies_at(text, i + 2)
+        } = line
         else {
             return malformed();
         };
