@@ -5,9 +5,11 @@ use mathlib.Core.Logic.{_↔_, _≢_, _⊎_, inl, inr}
 use mathlib.Core.Bool.{Bool, true, false, cond, _&&_}
 use mathlib.Core.List.{List, [], _∷_, foldl-append}
 use Prim.Native.Nat.{ℕ, _+_, _≤_, _<_}
+use native.Mathlib.Decide.{decLe}
 use native.Mathlib.Omega.{arith}
 use lib.IntN.{ℤ, pos, negℤ, natAbs, _+ℤ_, _-ℤ_}
-use lib.ListN.{length, length-append}
+use lib.ListN.{length, take, length-append}
+use lib.Seq.{take-all, take-length, take-nil, take-append-le}
 use lib.Signed.{ltZ, _≤ℤ_, _<ℤ_}
 use Rattle.common.proofs.Tests.{both-true}
 use Rattle.signed.specs.Sign.{above, below, within}
@@ -117,14 +119,14 @@ module _ (b : Battery) where
       let l = high-safe h (ending b p o) e (o .possible) in
       omega (arith, whole)
 
-  -- ---- what every history keeps
+  -- ---- what every history keeps: it passes both directions at the next start
   pub record Passes (h : History) : Type 0 where
     pub eight : length h ≤ 8
     pub low-passes : startAfter (b .low) h ≤ℤ stateAfter b h
     pub high-passes : startAfter (b .high) h ≤ℤ (pos (b .size) -ℤ stateAfter b h)
     pub in-size : InSize b (stateAfter b h)
 
-  pub first-passes : Opened → Passes []
+  first-passes : Opened → Passes []
   unfolding startAfter start stateAfter
   first-passes o = record {
     eight = omega arith;
@@ -133,7 +135,7 @@ module _ (b : Battery) where
     in-size = omega (arith, whole, o .high);
   }
 
-  pub next-passes : (h : History) (c : Closing) → Passes h → NoCause b h c → Passes (extend h c)
+  next-passes : (h : History) (c : Closing) → Passes h → NoCause b h c → Passes (extend h c)
   unfolding accepts
   next-passes h c v x =
       let e = true-within (floor h) (stateAfter b h +ℤ c .purchase) (ceiling h) (x .floor) (x .ceiling) in
@@ -143,6 +145,23 @@ module _ (b : Battery) where
         high-passes = rw (state-next h c) (high-safe h c e (x .possible));
         in-size = rw (state-next h c) (x .in-size);
       }
+
+  -- ---- the same after each number of the closings, from none to all
+  abbrev pub AllPass : History → Type 0
+  AllPass h = (k : ℕ) → k ≤ length h → Passes (take k h)
+
+  pub all-passes : {h : History} → AllPass h → Passes h
+  all-passes {h} all = rw (take-length h) at (all (length h) (omega arith))
+
+  pub first-all : Opened → AllPass []
+  first-all o k l = rw (take-nil {A = Closing} k) (first-passes o)
+
+  pub next-all : (h : History) (c : Closing) → AllPass h → NoCause b h c → AllPass (extend h c)
+  next-all h c all x k l = by (decLe k (length h))
+    where
+      by : Dec (k ≤ length h) → Passes (take k (extend h c))
+      by (yes m) = rw (take-append-le k h (c ∷ []) m) (all k m)
+      by (no m) = rw (take-all k (extend h c) (omega (arith, length-append h (c ∷ [])))) (next-passes h c (all-passes all) x)
 
   -- ---- none of a closing's causes holds
   pub no-cause : (h : History) (c : Closing) → length h < 8 → accepts h (c .purchase) ≡ true → b .good (c .readings) ≡ true → settled h c ≡ true → NoCause b h c

@@ -25,7 +25,7 @@ use Rattle.ledger_record.proofs.Openings.{Fits, opening-fits}
 use Rattle.ledger.specs.Calls.{Closing, newState, unusable, checking, proposing, closingCauses, closing, recordClosed, settles, low, high}
 use Rattle.ledger.specs.Calls as calls
 use Rattle.ledger.specs.Promise.{Call, check, propose, close, after, run, Gives, History, done, carriedOut, Battery, NoCause, Open, Promise, battery, stateAfter, entriesAfter, recordAfter, Demand3}
-use Rattle.ledger.proofs.History.{Opened, Still, Passes, accepts, proposal, settled, first-passes, next-passes, no-cause, no-cause-accepts, no-cause-settled, proposal-nearest, safe, refused-exactly, refused-fails}
+use Rattle.ledger.proofs.History.{Opened, Still, Passes, AllPass, all-passes, first-all, next-all, accepts, proposal, settled, no-cause, no-cause-accepts, no-cause-settled, proposal-nearest, safe, refused-exactly, refused-fails}
 use Rattle.ledger.proofs.Agreement.{Totals, no-totals, totals-next, rule-holds, usable-is, accepts-are, proposal-is, settles-are, closed-is}
 
 -- the causes of a closing, of which none holds
@@ -57,20 +57,23 @@ module _ (t : Terms) (curves : Curves) (size first : ℕ) (no-number : clear (op
   }
 
   record Agrees (r : Record) (h : History) : Type 0 where
-    passes : Passes b h
+    all-pass : AllPass b h
     totals : Totals t curves size first no-number h
     is-record : r ≡ recordAfter t curves size first h
 
   module _ {r : Record} {h : History} (a : Agrees r h) where
+    passes : Passes b h
+    passes = all-passes b (a .all-pass)
+
     -- ---- the tests of a call on the record are those that the list gives
     usable : unusable r ≡ eqb (length h) 8
-    usable = ap unusable (a .is-record) ∙ usable-is t curves size first no-number h (a .passes) (a .totals)
+    usable = ap unusable (a .is-record) ∙ usable-is t curves size first no-number h passes (a .totals)
 
     accepting : (p : ℤ) → calls.accepts r p ≡ accepts b h p
-    accepting p = ap (λ (r : Record). calls.accepts r p) (a .is-record) ∙ accepts-are t curves size first no-number h (a .passes) p
+    accepting p = ap (λ (r : Record). calls.accepts r p) (a .is-record) ∙ accepts-are t curves size first no-number h passes p
 
     settling : (c : Closing) → settles (low r c) (high r c) (r .size) (c .delivered) (c .taken) (newState (pos (r .state)) c) ≡ settled b h c
-    settling c = ap (λ (r : Record). settles (low r c) (high r c) (r .size) (c .delivered) (c .taken) (newState (pos (r .state)) c)) (a .is-record) ∙ settles-are t curves size first no-number h (a .passes) c
+    settling c = ap (λ (r : Record). settles (low r c) (high r c) (r .size) (c .delivered) (c .taken) (newState (pos (r .state)) c)) (a .is-record) ∙ settles-are t curves size first no-number h passes c
 
     -- ---- 10 exactly when eight closings are carried out
     eight-is : unusable r ≡ true ↔ length h ≡ 8
@@ -99,7 +102,7 @@ module _ (t : Terms) (curves : Curves) (size first : ℕ) (no-number : clear (op
       λ e.
           let w = four (eqb (length h) 8) (accepts b h (c .purchase)) (goodReadings (c .readings)) (settled b h c) (sym (given-exactly c) ∙ e) in
           let n = eqb-false (length h) 8 (w .0) in
-          no-cause b h c (omega (arith, n, a .passes .eight)) (w .1) (w .2) (w .3),
+          no-cause b h c (omega (arith, n, passes .eight)) (w .1) (w .2) (w .3),
       λ o.
           let n : eqb (length h) 8 ≡ false = ne-eqb (length h) 8 (λ e. omega (arith, o .before-eight)) in
           given-exactly c ∙ rw (n, no-cause-accepts b h c o, o .possible .good, no-cause-settled b h c o),
@@ -143,11 +146,11 @@ module _ (t : Terms) (curves : Curves) (size first : ℕ) (no-number : clear (op
 
       proposes : proposing r ≡ given (proposal b h)
       unfolding proposing
-      proposes = rw is-usable (ap given (ap calls.proposal (a .is-record) ∙ proposal-is t curves size first no-number h (a .passes)))
+      proposes = rw is-usable (ap given (ap calls.proposal (a .is-record) ∙ proposal-is t curves size first no-number h passes))
 
       is-open : Open b h r
       is-open =
-          let q = proposal-nearest b opened h (a .passes) in
+          let q = proposal-nearest b opened h passes in
           record {
             proposal = proposal b h;
             proposes = proposes;
@@ -166,9 +169,9 @@ module _ (t : Terms) (curves : Curves) (size first : ℕ) (no-number : clear (op
     holds-here : Promise b h r
     holds-here =
         record {
-          at-most-eight = a .passes .eight;
-          low-passes = a .passes .low-passes;
-          high-passes = a .passes .high-passes;
+          at-most-eight = passes .eight;
+          low-passes = λ k l. a .all-pass k l .low-passes;
+          high-passes = λ k l. a .all-pass k l .high-passes;
           eight = eight;
           before-eight = is-open;
           carried-exactly = carried-exactly;
@@ -196,9 +199,9 @@ module _ (t : Terms) (curves : Curves) (size first : ℕ) (no-number : clear (op
       by true e =
           let o = carried-exactly a c .0 e in
           record {
-            passes = next-passes b h c (a .passes) o;
-            totals = totals-next t curves size first no-number h c (a .passes) (a .totals) o;
-            is-record = ap (λ (r : Record). recordClosed r c) (a .is-record) ∙ closed-is t curves size first no-number h (a .passes) c o;
+            all-pass = next-all b h c (a .all-pass) o;
+            totals = totals-next t curves size first no-number h c (passes a) (a .totals) o;
+            is-record = ap (λ (r : Record). recordClosed r c) (a .is-record) ∙ closed-is t curves size first no-number h (passes a) c o;
           }
 
   reaches : (calls : List Call) (r : Record) (h : History) → Agrees r h → Agrees (run r calls) (h ++ carriedOut r calls)
@@ -211,14 +214,14 @@ module _ (t : Terms) (curves : Curves) (size first : ℕ) (no-number : clear (op
   -- ---- from the record that opening returned
   at-first : Agrees (firstRecord t curves size first) []
   unfolding recordAfter entriesAfter stateAfter periodsTo sum
-  at-first = record { passes = first-passes b opened; totals = no-totals t curves size first no-number; is-record = refl }
+  at-first = record { all-pass = first-all b opened; totals = no-totals t curves size first no-number; is-record = refl }
 
   kept : (calls : List Call) → Demand3 t curves size first (firstRecord t curves size first) calls
   kept calls =
       let a = reaches calls (firstRecord t curves size first) [] at-first in
       record {
         promise = holds-here a;
-        keeps = rw (a .is-record) (rule-holds t curves size first no-number _ (a .passes) (a .totals));
+        keeps = rw (a .is-record) (rule-holds t curves size first no-number _ (passes a) (a .totals));
         holds = a .is-record;
       }
 

@@ -3,8 +3,8 @@
 -- In words: open a record with terms, curves, size and first state of which no cause of opening holds. Make any calls on it,
 -- one after the other, each on the record that the last one returned or left. Then read off the list which closings were carried
 -- out: their readings give the bounds, the bounds give every start, and their purchases, deliveries and takings give the state.
--- At this point the unit passes both directions at the next start. Every call gives 10 exactly when eight closings were
--- carried out. Before that the proposal is accepted, lies within the recovery volumes and is nearest to 0, and a purchase is
+-- The unit passes both directions at every start: at that of the period after each number of them, from none to all. Every call
+-- gives 10 exactly when eight closings were carried out. Before that the proposal is accepted, lies within the recovery volumes and is nearest to 0, and a purchase is
 -- refused exactly when it goes past empty or full itself or some outcome of the period fails a direction at the start after it.
 -- A closing is carried out exactly when none of its causes holds, read off the list. A refused call leaves the record as it was.
 -- The record keeps the record rule, and holds just what the list gives. Assumes nothing.
@@ -14,7 +14,7 @@ use mathlib.Core.Logic.{_↔_, _≢_, _⊎_}
 use mathlib.Core.List.{List, [], _∷_, _++_, map, foldl}
 use Prim.Native.Nat.{ℕ, suc, _-_, _≤_, _<_}
 use lib.IntN.{ℤ, pos, negℤ, natAbs, _+ℤ_, _-ℤ_}
-use lib.ListN.{length, replicate}
+use lib.ListN.{length, take, replicate}
 use lib.Signed.{_≤ℤ_, _<ℤ_}
 use Rattle.common.specs.Answer.{refused, given, isGiven, orBlank}
 use Rattle.common.specs.Lists.{sum}
@@ -169,9 +169,10 @@ module _ (b : Battery) where
 
   pub record Promise (h : History) (r : Record) : Type 0 where
     pub at-most-eight : length h ≤ 8
-    -- the unit passes both directions at start(n+1), n = 8 included
-    pub low-passes : startAfter (b .low) h ≤ℤ stateAfter h
-    pub high-passes : startAfter (b .high) h ≤ℤ (pos (b .size) -ℤ stateAfter h)
+    -- the unit passes both directions at every start: for every k from 0 to n, after the first k closings carried out the state is
+    -- at least low start(k+1), and size less state is at least high start(k+1)
+    pub low-passes : (k : ℕ) → k ≤ length h → startAfter (b .low) (take k h) ≤ℤ stateAfter (take k h)
+    pub high-passes : (k : ℕ) → k ≤ length h → startAfter (b .high) (take k h) ≤ℤ (pos (b .size) -ℤ stateAfter (take k h))
     -- with n = 8 every call gives 10; before that none does
     pub eight : (call : Call) → Gives r call 10 ↔ length h ≡ 8
     pub before-eight : length h < 8 → Open h r
