@@ -16,9 +16,9 @@ use Rattle.common.specs.Periods.{periodsTo}
 use Rattle.common.proofs.Answers.{given-is, given-clear, given-value, orBlank-is, first-given}
 use Rattle.common.proofs.Tests.{not-not, both-true}
 use Rattle.terms.specs.declared.Terms.{Terms}
-use Rattle.energy.specs.Period.{goodReadings}
+use Rattle.energy.specs.Period.{goodReadings, lowDeviation, highDeviation}
 use Rattle.energy.specs.declared.curve.Curves.{Curves}
-use Rattle.energy.proofs.Laws.{still-good, still-low, still-high}
+use Rattle.energy.proofs.Laws.{still-good, still-bound}
 use Rattle.ledger_record.specs.Opening.{openingCauses, firstRecord, opening}
 use Rattle.ledger_record.specs.declared.Record.{Record}
 use Rattle.ledger_record.proofs.Openings.{Fits, opening-fits}
@@ -52,8 +52,8 @@ module _ (t : Terms) (curves : Curves) (size first : ℕ) (no-number : clear (op
   still = record {
     readings = replicate 3600 50000;
     good = still-good;
-    low = still-low (t .low) curves (fits .curves-hold);
-    high = still-high (t .high) curves (fits .curves-hold);
+    low = still-bound (t .low) curves (fits .curves-hold) lowDeviation refl 3600;
+    high = still-bound (t .high) curves (fits .curves-hold) highDeviation refl 3600;
   }
 
   record Agrees (r : Record) (h : History) : Type 0 where

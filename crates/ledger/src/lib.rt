@@ -175,12 +175,12 @@ fn settle(
     if !(within_bound(delivered, low) & within_bound(taken, high)) {
         return Settled::Not;
     }
-    let up = state as u64 + signed::above_zero(purchase) + signed::above_zero(taken);
-    let down = signed::below_zero(purchase) + signed::above_zero(delivered);
-    if up < down {
+    let comes = state as u64 + signed::above_zero(purchase) + signed::above_zero(taken);
+    let goes = signed::below_zero(purchase) + signed::above_zero(delivered);
+    if comes < goes {
         return Settled::Not;
     }
-    let new = up - down;
+    let new = comes - goes;
     if (size as u64) < new {
         return Settled::Not;
     }

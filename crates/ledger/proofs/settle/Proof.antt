@@ -33,17 +33,17 @@ in-bounds c =
     let b = bounds-are (c .before) in
     rw (← b .0, ← b .1) (not-false (c .before .before .within-bound .result && c .before .within-bound2 .result) (c .if1 .left))
 
-parts-are : (c : tie.After-above-zero2) →
+comes-are : (c : tie.After-above-zero2) →
     let a = c .before .before .before .before .before .args in
     (c .before .above-zero .result ≡ above (a .purchase)) × (c .above-zero2 .result ≡ above (a .taken))
-parts-are c =
+comes-are c =
     let s = c .before .before .before .before .before in
     (part above (c .before .above-zero .ensures) (toZ-ofZ (s .fits .purchase)), part above (c .above-zero2 .ensures) (toZ-ofZ (s .fits .taken)))
 
-down-are : (c : tie.After-above-zero3) →
+goes-are : (c : tie.After-above-zero3) →
     let a = c .before .before .before .before .before .before .before .args in
     (c .before .below-zero .result ≡ below (a .purchase)) × (c .above-zero3 .result ≡ above (a .delivered))
-down-are c =
+goes-are c =
     let s = c .before .before .before .before .before .before .before in
     (part below (c .before .below-zero .ensures) (toZ-ofZ (s .fits .purchase)), part above (c .above-zero3 .ensures) (toZ-ofZ (s .fits .delivered)))
 
@@ -61,20 +61,20 @@ returns c =
 above-zero-requires : tie.Need-above-zero-requires
 above-zero-requires c κs = search needs
 
-add-up : tie.Need-add-up
-add-up c =
+add-comes : tie.Need-add-comes
+add-comes c =
     let s = c .before .before .before .before in
     omega (arith, part above (c .above-zero .ensures) (toZ-ofZ (s .fits .purchase)), above-fits (s .fits .purchase))
 
 above-zero-requires-2 : tie.Need-above-zero-requires-2
 above-zero-requires-2 c κs = search needs
 
-add-up-2 : tie.Need-add-up-2
-add-up-2 c =
+add-comes-2 : tie.Need-add-comes-2
+add-comes-2 c =
     let i = c .before .before in
     let s = i .before .before .before in
     let a = s .args in
-    omega (arith, parts-are c, above-fits (s .fits .purchase), bounded (a .state) (a .size) (a .low) (a .high) (a .purchase) (a .delivered) (a .taken) (in-bounds i))
+    omega (arith, comes-are c, above-fits (s .fits .purchase), bounded (a .state) (a .size) (a .low) (a .high) (a .purchase) (a .delivered) (a .taken) (in-bounds i))
 
 below-zero-requires : tie.Need-below-zero-requires
 below-zero-requires c κs = search needs
@@ -82,26 +82,26 @@ below-zero-requires c κs = search needs
 above-zero-requires-3 : tie.Need-above-zero-requires-3
 above-zero-requires-3 c κs = search needs
 
-add-down : tie.Need-add-down
-add-down c =
+add-goes : tie.Need-add-goes
+add-goes c =
     let i = c .before .before .before .before in
     let s = i .before .before .before in
     let a = s .args in
-    omega (arith, down-are c, below-fits (s .fits .purchase), bounded (a .state) (a .size) (a .low) (a .high) (a .purchase) (a .delivered) (a .taken) (in-bounds i))
+    omega (arith, goes-are c, below-fits (s .fits .purchase), bounded (a .state) (a .size) (a .low) (a .high) (a .purchase) (a .delivered) (a .taken) (in-bounds i))
 
 returns-2 : tie.Need-returns-2
 returns-2 c =
     let g = c .before in
     let i = g .before .before .before .before in
     let a = i .before .before .before .args in
-    rw (below-empty (a .state) (a .size) (a .low) (a .high) (a .purchase) (a .delivered) (a .taken) (in-bounds i) (omega (arith, parts-are (g .before .before), down-are g)))
+    rw (below-empty (a .state) (a .size) (a .low) (a .high) (a .purchase) (a .delivered) (a .taken) (in-bounds i) (omega (arith, comes-are (g .before .before), goes-are g)))
 
 returns-3 : tie.Need-returns-3
 returns-3 c =
     let g = c .before .before in
     let i = g .before .before .before .before in
     let a = i .before .before .before .args in
-    rw (above-full (a .state) (a .size) (a .low) (a .high) (a .purchase) (a .delivered) (a .taken) (in-bounds i) (omega (arith, parts-are (g .before .before), down-are g)) (omega (arith, parts-are (g .before .before), down-are g)))
+    rw (above-full (a .state) (a .size) (a .low) (a .high) (a .purchase) (a .delivered) (a .taken) (in-bounds i) (omega (arith, comes-are (g .before .before), goes-are g)) (omega (arith, comes-are (g .before .before), goes-are g)))
 
 cast-t19 : tie.Need-cast-t19
 cast-t19 c = search needs
@@ -112,14 +112,14 @@ returns-4 c =
     let i = g .before .before .before .before in
     let a = i .before .before .before .args in
     let l : goes (a .state) (a .size) (a .low) (a .high) (a .purchase) (a .delivered) (a .taken) (in-bounds i) ≤ comes (a .state) (a .size) (a .low) (a .high) (a .purchase) (a .delivered) (a .taken) (in-bounds i) =
-    omega (arith, parts-are (g .before .before), down-are g) in
+    omega (arith, comes-are (g .before .before), goes-are g) in
     rw (
-      settles (a .state) (a .size) (a .low) (a .high) (a .purchase) (a .delivered) (a .taken) (in-bounds i) l (omega (arith, parts-are (g .before .before), down-are g)),
+      settles (a .state) (a .size) (a .low) (a .high) (a .purchase) (a .delivered) (a .taken) (in-bounds i) l (omega (arith, comes-are (g .before .before), goes-are g)),
       new-is (a .state) (a .size) (a .low) (a .high) (a .purchase) (a .delivered) (a .taken) (in-bounds i) l,
-      parts-are (g .before .before) .0,
-      parts-are (g .before .before) .1,
-      down-are g .0,
-      down-are g .1,
+      comes-are (g .before .before) .0,
+      comes-are (g .before .before) .1,
+      goes-are g .0,
+      goes-are g .1,
     )
 
 pub settle-spec : {M : Type 1} → statement M
@@ -130,12 +130,12 @@ settle-spec =
     within-bound-requires-2
     returns
     above-zero-requires
-    add-up
+    add-comes
     above-zero-requires-2
-    add-up-2
+    add-comes-2
     below-zero-requires
     above-zero-requires-3
-    add-down
+    add-goes
     returns-2
     returns-3
     cast-t19
