@@ -110,6 +110,8 @@ int main(void) {
     terms("terms, 1,000 MW of low", 0, 600, 400, 0, 0, 0, 0, 2000000, 2000000);
     terms("terms, 1,001 MW of low before the limits", -1, 600, 400, 1, 0, 0, 0, -1, -1);
     terms("terms, 1,001 MW of high", -1, 0, 0, 0, 1, 0, 1000, 2000000, 2000000);
+    terms("terms, -1 MW as C converts it", -1, (uint32_t)-1, 0, 0, 0, 0, 0, 2000000, 2000000);
+    terms("terms, the least int32_t as C converts it", -1, 0, 0, 0, 0, 0, (uint32_t)INT32_MIN, 2000000, 2000000);
 
     quantity("quantity, headroom 30 MW", 17000, 1, 0, 0, 70000, FOUR, 32, 4000000);
     quantity("quantity, headroom 150 MW, past the last point", 55000, 1, 0, 0, -50000, FOUR, 32, 4000000);
@@ -119,6 +121,9 @@ int main(void) {
     quantity("quantity, footroom 30 MW by SEL", 20000, 2, 0, 10000, 40000, THREE, 24, 4000000);
     quantity("quantity, the limit is smaller", 16999, 1, 0, 0, 70000, FOUR, 32, 16999);
     quantity("quantity, limit 4,000,001", -12, 1, 0, 0, 70000, FOUR, 32, 4000001);
+    quantity("quantity, limit -1 as C converts it", -12, 1, 0, 0, 70000, FOUR, 32, (uint32_t)-1);
+    quantity("quantity, limit of the least int32_t as C converts it", -12, 1, 0, 0, 70000, FOUR, 32, (uint32_t)INT32_MIN);
+    quantity("quantity, direction -1 as C converts it", -12, (uint32_t)-1, 0, 0, 70000, FOUR, 32, 4000000);
     quantity("quantity, direction 3", -12, 3, 0, 0, 70000, FOUR, 32, 4000000);
     quantity("quantity, level above MEL", -12, 1, 0, 0, 100001, FOUR, 32, 4000000);
     quantity("quantity, one point", -12, 1, 0, 0, 70000, FOUR, 8, 4000000);

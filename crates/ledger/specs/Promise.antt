@@ -3,11 +3,12 @@
 -- In words: open a record with terms, curves, size and first state of which no cause of opening holds. Make any calls on it,
 -- one after the other, each on the record that the last one returned or left. Then read off the list which closings were carried
 -- out: their readings give the bounds, the bounds give every start, and their purchases, deliveries and takings give the state.
--- The unit passes both directions at every start: at that of the period after each number of them, from none to all. Every call
--- gives 10 exactly when eight closings were carried out. Before that the proposal is accepted, lies within the recovery volumes and is nearest to 0, and a purchase is
--- refused exactly when it goes past empty or full itself or some outcome of the period fails a direction at the start after it.
--- A closing is carried out exactly when none of its causes holds, read off the list. A refused call leaves the record as it was.
--- The record keeps the record rule, and holds just what the list gives. Assumes nothing.
+-- The unit passes both directions at every start: after the first k closings carried out, for every k from none to all, at
+-- start(k+1). Every call gives 10 exactly when eight closings were carried out. Before that the proposal is accepted, lies within
+-- the recovery volumes and is nearest to 0, and a purchase is refused exactly when it goes past empty or full itself or some
+-- outcome of the period fails a direction at the start after it. A closing is carried out exactly when none of its causes holds,
+-- read off the list. A refused call leaves the record as it was. The record keeps the record rule, and holds just what the list
+-- gives. Assumes nothing.
 use mathlib.Core.Path.{_≡_}
 use mathlib.Core.Bool.{Bool, true, cond}
 use mathlib.Core.Logic.{_↔_, _≢_, _⊎_}
