@@ -4,7 +4,7 @@ ghost use mathlib.Core.Bool.{cond, true, false};
 ghost use mathlib.Core.List.{_++_};
 ghost use Prim.Native.Nat.{_+_, _*_, _/_, _%_, _^_, _<_, _≤_};
 ghost use lib.Dec.{ltb};
-ghost use lib.ListN.{length, take, drop, set, replicate};
+ghost use lib.ListN.{length, take, drop, replicate};
 ghost use Rattle.common.specs.Answer.{numberOf, orBlank};
 ghost use Rattle.report.specs.Number as Number;
 ghost use Rattle.report.specs.Input.{column, termsOf, energiesOf, lineAt, linesOf, noInput, inputOf};
@@ -164,15 +164,6 @@ fn no_lines() -> [Line; 9]
     [Line::Malformed; 9]
 }
 
-fn with_line(lines: [Line; 9], i: usize, line: Line) -> [Line; 9]
-    requires { ⌜ i < 9 ⌝ }
-    ensures { λ r. ⌜ r ≡ set lines i line ⌝ }
-{
-    let mut out = lines;
-    out[i] = line;
-    out
-}
-
 // A reader keeps the text and the next line's number together.
 struct Reader<'a> {
     text: &'a [u8],
@@ -204,8 +195,7 @@ fn read_lines(text: &[u8]) -> [Line; 9]
     let mut lines = no_lines();
     let mut i: usize = 0;
     while i < 9 {
-        let line = next_line(&mut reader);
-        lines = with_line(lines, i, line);
+        lines[i] = next_line(&mut reader);
         i += 1;
     }
     lines
