@@ -8,9 +8,10 @@
  * output is written. The caller sees to it that a pointer is not null, also where its length is 0, that it leads to as many
  * bytes as its length says, and that an output overlaps no other argument. Every other argument may have any value.
  *
- * Unsigned numbers: quantities, direction and submitted limit are uint32_t, so none below 0 can be handed in. A host that holds one
- * in a signed or wider type compares it with 0 and 4,294,967,295 before the call and refuses it itself: C would convert it without
- * a word. An int32_t below 0 becomes a number above 2,147,483,647, which each function refuses as too great. */
+ * Unsigned numbers: quantities, direction and submitted limit are uint32_t, so that none below 0 can be handed in. A host that
+ * holds one in a signed or wider type compares it with 0 and 4,294,967,295 before the call and refuses it itself, since C converts
+ * it without a warning. An int32_t below 0 becomes a number above 2,147,483,647: soe_terms refuses that as a quantity with -1,
+ * soe_quantity as a direction or a limit with -12. */
 #ifndef SOE_H
 #define SOE_H
 
