@@ -10,7 +10,7 @@ use lib.Signed.{leZ, _≤ℤ_, ≤ℤ-refl}
 use Rattle.common.specs.Lists.{every}
 use Rattle.signed.specs.Sign.{above, within}
 use Rattle.signed.proofs.Whole.{whole, less, same, ≤-read, one-sided}
-use Rattle.common.proofs.Tests.{both-true}
+use Rattle.common.proofs.Tests.{both-true, by-test}
 use Rattle.capability.specs.Capability.{inRange, limitsRule, wholeRange, headroom, footroom, roomOf}
 use Rattle.capability.specs.declared.Limits.{Limits}
 
@@ -82,10 +82,6 @@ exact {z} r = same (pos (above z)) z (omega (arith, whole, ≤-read (r .0), one-
 most : {z : ℤ} → Room z → above z ≤ 4000000
 most {z} r = omega (arith, whole, ≤-read (r .0), ≤-read (r .1), one-sided z)
 
-by-test : (t : Bool) {x y : ℤ} → (t ≡ true → Room x) → (t ≡ false → Room y) → Room (cond t x y)
-by-test true f g = f refl
-by-test false f g = g refl
-
 module _ (l : Limits) (rule : limitsRule l ≡ true) where
   -- from one level up to another, both in MIL..MEL
   gap : {low high : ℤ} → l .mil ≤ℤ low → low ≤ℤ high → high ≤ℤ l .mel → Room (high -ℤ low)
@@ -98,20 +94,20 @@ module _ (l : Limits) (rule : limitsRule l ≡ true) where
   headroom-range =
       let k = kept l rule in
       let ol = k .ol-between in
-      by-test (wholeRange l || leZ (l .sel) (l .ol)) (λ t. gap (ol .from) (ol .to) (≤ℤ-refl _))
-      (λ u. by-test (leZ (l .ol) (l .sil)) (λ t. gap (ol .from) (at-most t) (omega (arith, whole))) (λ t. zero-room))
+      by-test Room (wholeRange l || leZ (l .sel) (l .ol)) _ _ (λ t. gap (ol .from) (ol .to) (≤ℤ-refl _))
+      (λ u. by-test Room (leZ (l .ol) (l .sil)) _ _ (λ t. gap (ol .from) (at-most t) (omega (arith, whole))) (λ t. zero-room))
 
   pub footroom-range : Room (footroom l)
   unfolding footroom
   footroom-range =
       let k = kept l rule in
       let ol = k .ol-between in
-      by-test (wholeRange l || leZ (l .ol) (l .sil)) (λ t. gap (≤ℤ-refl _) (ol .from) (ol .to))
-      (λ u. by-test (leZ (l .sel) (l .ol)) (λ t. gap {low = l .sel} (omega (arith, whole)) (at-most t) (ol .to)) (λ t. zero-room))
+      by-test Room (wholeRange l || leZ (l .ol) (l .sil)) _ _ (λ t. gap (≤ℤ-refl _) (ol .from) (ol .to))
+      (λ u. by-test Room (leZ (l .sel) (l .ol)) _ _ (λ t. gap {low = l .sel} (omega (arith, whole)) (at-most t) (ol .to)) (λ t. zero-room))
 
   module _ (direction : ℕ) where
     room-range : Room (cond (eqb direction 1) (headroom l) (footroom l))
-    room-range = by-test (eqb direction 1) (λ t. headroom-range) (λ t. footroom-range)
+    room-range = by-test Room (eqb direction 1) _ _ (λ t. headroom-range) (λ t. footroom-range)
 
     -- the part above 0 of a room is the whole of it
     pub room-exact : pos (roomOf direction l) ≡ cond (eqb direction 1) (headroom l) (footroom l)

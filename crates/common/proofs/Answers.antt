@@ -8,8 +8,8 @@ use native.Mathlib.Omega.{arith}
 use borrow.Author.Tests.{eqb-false, not-true}
 use lib.Dec.{eqb}
 use Rattle.common.specs.Answer.{refused, given, isGiven, Cause, cause, checked, clear, orBlank}
-use Rattle.common.specs.Lists.{every, some}
-use Rattle.common.proofs.Tests.{both-true}
+use Rattle.common.specs.Lists.{every}
+use Rattle.common.proofs.Tests.{both-true, by-test}
 
 module _ {A : Type 0} where
   -- a value is given exactly where no cause holds
@@ -72,10 +72,18 @@ passed c causes a {x} = by (c .holds)
     by true h = let o : _≡_ {A = ℕ} 0 1 = cc in absurd (omega arith)
     by false h = (refl, h)
 
-pub none-holds : {A : Type 0} (causes : List Cause) (a : A) {x : A} → checked causes a ≡ given x → some (λ (c : Cause). c .holds) causes ≡ false
-unfolding some
-none-holds [] a h = refl
-none-holds (c ∷ causes) a h = let p = passed c causes a h in rw (p .0) (none-holds causes a (p .1))
+-- ---- of causes that are clear each is false
+
+-- whether the first cause of number k holds; false where none has that number
+abbrev pub holdsOf : ℕ → List Cause → Bool
+holdsOf k [] = false
+holdsOf k (c ∷ causes) = cond (eqb (c .number) k) (c .holds) (holdsOf k causes)
+
+pub clear-of : (k : ℕ) (causes : List Cause) → clear causes ≡ true → holdsOf k causes ≡ false
+clear-of k [] e = refl
+clear-of k (c ∷ causes) e =
+    let w = both-true (not (c .holds)) (clear causes) e in
+    by-test (λ (h : Bool). h ≡ false) (eqb (c .number) k) (c .holds) (holdsOf k causes) (λ t. not-true (c .holds) (w .0)) (λ t. clear-of k causes (w .1))
 
 -- ---- causes that stand before others: what they refuse is refused, and where they refuse nothing the others decide
 module _ {A B : Type 0} (later : List Cause) (a : A) where

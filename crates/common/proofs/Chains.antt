@@ -3,11 +3,11 @@ use mathlib.Core.Path.{_≡_, _∙_}
 use mathlib.Core.Bool.{Bool, true, false, _&&_}
 use mathlib.Core.List.{List, [], _∷_}
 use Prim.Native.Nat.{ℕ, _+_, _≤_, _<_}
-use native.Mathlib.Numerals.{add-one}
 use native.Mathlib.Omega.{arith}
 use lib.ListN.{length, drop, take, getD, length-take, drop-of-length-le}
-use lib.Seq.{drop-cons, getD-take}
+use lib.Seq.{getD-take}
 use Rattle.common.specs.Lists.{chain}
+use Rattle.common.proofs.Lists.{drop-next}
 use Rattle.common.proofs.Tests.{both-true}
 
 -- ---- the entries that are counted, from the i-th on
@@ -19,7 +19,7 @@ module _ {A : Type 0} (count : ℕ) (xs : List A) where
   pub next : (i : ℕ) (d : A) → i < count → count ≤ length xs → rest i ≡ getD xs i d ∷ rest (i + 1)
   next i d h long =
       let b : i < length (take count xs) = simp length-take (omega arith) in
-      rw (add-one i, drop-cons (take count xs) i d b, getD-take count xs i d h)
+      rw (drop-next (take count xs) i d b, getD-take count xs i d h)
 
   pub none-left : (i : ℕ) → count ≤ i → rest i ≡ []
   none-left i h =

@@ -1,15 +1,21 @@
 -- Sums and tests over lists. Assumes nothing.
 use mathlib.Core.Path.{_≡_, refl, sym, _∙_}
 use mathlib.Core.Bool.{Bool, true, false, _&&_, _||_, and-assoc, and-false}
-use mathlib.Core.List.{List, [], _∷_, _++_, map}
+use mathlib.Core.List.{List, [], _∷_, _++_, map, map-append}
 use Prim.Native.Nat.{ℕ, zero, suc, _+_, _*_, _≤_, _<_}
 use native.Mathlib.Nat.{mul-suc}
 use native.Mathlib.Numerals.{add-one}
 use native.Mathlib.Omega.{arith}
 use lib.ListN.{length, getD, take, drop, replicate, drop-of-length-le}
 use lib.Seq.{take-suc, drop-cons}
-use Rattle.common.specs.Lists.{sum, every, some}
+use Rattle.common.specs.Lists.{sum, every, someEntry}
 use Rattle.common.proofs.Tests.{neither}
+
+-- a turn of a loop over a list: the entries from the i-th on are the i-th and those after it
+pub drop-next : {A : Type 0} (xs : List A) (i : ℕ) (d : A) → i < length xs → drop i xs ≡ getD xs i d ∷ drop (i + 1) xs
+drop-next xs i d h = rw (add-one i) (drop-cons xs i d h)
+
+-- ---- sums
 
 pub sum-append : (ms ns : List ℕ) → sum (ms ++ ns) ≡ sum ms + sum ns
 unfolding sum
@@ -26,6 +32,16 @@ pub sum-take : (ns : List ℕ) (i : ℕ) → i < length ns → sum (take (i + 1)
 unfolding sum
 sum-take ns i h = rw (add-one i, take-suc ns i 0 h, sum-append) (omega arith)
 
+pub sum-zeros : (n : ℕ) → sum (replicate n 0) ≡ 0
+unfolding sum
+sum-zeros zero = refl
+sum-zeros (suc n) = omega (arith, sum-zeros n)
+
+-- one entry more
+pub sum-next : {A : Type 0} (f : A → ℕ) (xs : List A) (x : A) → sum (map f (xs ++ (x ∷ []))) ≡ sum (map f xs) + f x
+unfolding sum
+sum-next f xs x = rw (map-append, sum-append) (omega arith)
+
 -- ---- a sum of f over a list
 module _ (f : ℕ → ℕ) where
   pub sum-same : (g : ℕ → ℕ) → ((n : ℕ) → f n ≡ g n) → (ns : List ℕ) → sum (map f ns) ≡ sum (map g ns)
@@ -38,10 +54,12 @@ module _ (f : ℕ → ℕ) where
   sum-le k h [] = omega arith
   sum-le k h (n ∷ ns) = omega (arith, h n, sum-le k h ns, mul-suc k (length ns))
 
-  pub sum-zeros : (n : ℕ) → f n ≡ 0 → (k : ℕ) → sum (map f (replicate k n)) ≡ 0
-  unfolding sum
-  sum-zeros n h zero = refl
-  sum-zeros n h (suc k) = omega (arith, sum-zeros n h k)
+  map-replicate : (n k : ℕ) → map f (replicate k n) ≡ replicate k (f n)
+  map-replicate n zero = refl
+  map-replicate n (suc k) = rw (map-replicate n k)
+
+  pub sum-none : (n : ℕ) → f n ≡ 0 → (k : ℕ) → sum (map f (replicate k n)) ≡ 0
+  sum-none n h k = rw (map-replicate n k, h) (sum-zeros k)
 
 -- ---- a test of every entry, by the entries
 module _ {A : Type 0} (holds : A → Bool) where
@@ -69,23 +87,23 @@ module _ {A : Type 0} (holds : A → Bool) where
 
 -- ---- a loop that looks for an entry: what is left of the list says the same as the whole
 module _ {A : Type 0} (holds : A → Bool) (xs : List A) (i : ℕ) (d : A) where
-  some-split : i < length xs → some holds (drop i xs) ≡ holds (getD xs i d) || some holds (drop (suc i) xs)
-  unfolding some
-  some-split h = rw (drop-cons xs i d h)
+  some-split : i < length xs → someEntry holds (drop i xs) ≡ holds (getD xs i d) || someEntry holds (drop (i + 1) xs)
+  unfolding someEntry
+  some-split h = rw (drop-next xs i d h)
 
-  pub some-found : i < length xs → some holds (drop i xs) ≡ some holds xs → holds (getD xs i d) ≡ true → true ≡ some holds xs
+  pub some-found : i < length xs → someEntry holds (drop i xs) ≡ someEntry holds xs → holds (getD xs i d) ≡ true → true ≡ someEntry holds xs
   some-found h same t = sym (rw t at (some-split h)) ∙ same
 
-  pub some-passed : i < length xs → some holds (drop i xs) ≡ some holds xs → holds (getD xs i d) ≡ false → some holds (drop (i + 1) xs) ≡ some holds xs
-  some-passed h same t = rw (add-one i) (sym (rw t at (some-split h)) ∙ same)
+  pub some-passed : i < length xs → someEntry holds (drop i xs) ≡ someEntry holds xs → holds (getD xs i d) ≡ false → someEntry holds (drop (i + 1) xs) ≡ someEntry holds xs
+  some-passed h same t = sym (rw t at (some-split h)) ∙ same
 
-pub some-none : {A : Type 0} (holds : A → Bool) (xs : List A) (i : ℕ) → length xs ≤ i → some holds (drop i xs) ≡ some holds xs → false ≡ some holds xs
-unfolding some
+pub some-none : {A : Type 0} (holds : A → Bool) (xs : List A) (i : ℕ) → length xs ≤ i → someEntry holds (drop i xs) ≡ someEntry holds xs → false ≡ someEntry holds xs
+unfolding someEntry
 some-none holds xs i h same = rw (drop-of-length-le xs h) at same
 
 -- where no entry holds, and neither does what stands past the last
-pub some-not : {A : Type 0} (holds : A → Bool) (xs : List A) (i : ℕ) (d : A) → holds d ≡ false → some holds xs ≡ false → holds (getD xs i d) ≡ false
-unfolding some
+pub some-not : {A : Type 0} (holds : A → Bool) (xs : List A) (i : ℕ) (d : A) → holds d ≡ false → someEntry holds xs ≡ false → holds (getD xs i d) ≡ false
+unfolding someEntry
 some-not holds [] i d past none = past
-some-not holds (x ∷ xs) zero d past none = neither (holds x) (some holds xs) none .0
-some-not holds (x ∷ xs) (suc i) d past none = some-not holds xs i d past (neither (holds x) (some holds xs) none .1)
+some-not holds (x ∷ xs) zero d past none = neither (holds x) (someEntry holds xs) none .0
+some-not holds (x ∷ xs) (suc i) d past none = some-not holds xs i d past (neither (holds x) (someEntry holds xs) none .1)

@@ -11,9 +11,9 @@ unfoldable pub every : {A : Type 0} → (A → Bool) → List A → Bool
 every holds [] = true
 every holds (x ∷ xs) = holds x && every holds xs
 
-unfoldable pub some : {A : Type 0} → (A → Bool) → List A → Bool
-some holds [] = false
-some holds (x ∷ xs) = holds x || some holds xs
+unfoldable pub someEntry : {A : Type 0} → (A → Bool) → List A → Bool
+someEntry holds [] = false
+someEntry holds (x ∷ xs) = holds x || someEntry holds xs
 
 -- from x on, each entry passes the test and is linked to the next
 unfoldable pub chain : {A : Type 0} → (A → Bool) → (A → A → Bool) → A → List A → Bool

@@ -1,7 +1,7 @@
 -- The share of a curve that keeps its rule: at most 1,000 per mille, 0 at deviation 0, and a point's own share at the point.
 -- Assumes nothing.
 use mathlib.Core.Path.{_≡_, refl, ap}
-use mathlib.Core.Bool.{Bool, true, false, cond, false≢true}
+use mathlib.Core.Bool.{true, false≢true}
 use mathlib.Core.List.{List, [], _∷_}
 use Prim.Native.Nat.{ℕ, zero, suc, _+_, _-_, _*_, _≤_, _<_}
 use native.Mathlib.Nat.{add-mul, add-zero, sub-self, mul-assoc, mul-left-comm, mul-le-mul, mul-le-mul-left, mul-le-mul-right, mul-zero, zero-mul}
@@ -11,7 +11,7 @@ use lib.Dec.{ltb, eqb}
 use lib.ListN.{length, getD}
 use Rattle.common.specs.Fraction.{Fraction, whole}
 use Rattle.common.specs.Lists.{chain}
-use Rattle.common.proofs.Tests.{both-true}
+use Rattle.common.proofs.Tests.{both-true, by-test}
 use Rattle.energy.specs.Curve.{blank, between, shareFrom, shareAt, responseTo, response, inRange, rises, pointsRule, pointsOf, curveRule}
 use Rattle.energy.specs.declared.curve.Point.{Point}
 use Rattle.energy.specs.declared.curve.Curve.{Curve}
@@ -34,10 +34,6 @@ module _ (mw s t a b d : ℕ) (h : (mw ≤ 1000) × (b ≤ 3000) × (s ≤ t) ×
   product-le = mul-le-mul (h .0) numerator-le
 
 -- ---- the share as a fraction
-
-by-test : {A : Type 0} (P : A → Type 0) (t : Bool) (a b : A) → (t ≡ true → P a) → (t ≡ false → P b) → P (cond t a b)
-by-test P true a b f g = f refl
-by-test P false a b f g = g refl
 
 record Share (f : Fraction) : Type 0 where
   positive : 0 < f .denominator

@@ -3,13 +3,12 @@ use mathlib.Core.Path.{_≡_, refl, ap, _∙_}
 use mathlib.Core.Bool.{true, false, not}
 use mathlib.Core.List.{List, [], _∷_, map}
 use Prim.Native.Nat.{ℕ, _+_, _*_, _≤_, _<_}
-use native.Mathlib.Numerals.{add-one}
 use native.Mathlib.Omega.{arith}
 use borrow.Author.Tests.{eq-eqb, ne-eqb}
 use lib.ListN.{length, drop, getD, drop-of-length-le}
-use lib.Seq.{drop-cons}
 use Rattle.common.specs.Answer.{Answer, refused, given, cause, checked}
 use Rattle.common.specs.Lists.{sum, every}
+use Rattle.common.proofs.Lists.{drop-next}
 use Rattle.terms.specs.declared.Quantities.{Quantities}
 use Rattle.terms.specs.Terms.{Q}
 use Rattle.common.specs.Fraction.{roundedUp}
@@ -19,9 +18,6 @@ use Rattle.energy.specs.declared.curve.Curves.{Curves}
 use Rattle.energy.proofs.Responses.{responses-le}
 
 module _ (rs : List ℕ) where
-  next : (i : ℕ) → i < length rs → drop i rs ≡ getD rs i 0 ∷ drop (i + 1) rs
-  next i h = rw (add-one i) (drop-cons rs i 0 h)
-
   -- ---- one direction: with what the readings from the i-th on respond, s is the whole sum
 
   module _ (f : ℕ → ℕ) where
@@ -34,7 +30,7 @@ module _ (rs : List ℕ) where
 
     pub one-more : {i s : ℕ} → Summed i s → i < length rs → f (getD rs i 0) ≤ 1000000 → Summed (i + 1) (s + f (getD rs i 0))
     unfolding sum
-    one-more {i} {s} m h le = record { whole = omega (arith, m .whole, ap (λ (l : List ℕ). sum (map f l)) (next i h)); small = omega arith }
+    one-more {i} {s} m h le = record { whole = omega (arith, m .whole, ap (λ (l : List ℕ). sum (map f l)) (drop-next rs i 0 h)); small = omega arith }
 
     pub all : {i s : ℕ} → Summed i s → length rs ≤ i → s ≡ sum (map f rs)
     unfolding sum
@@ -74,7 +70,7 @@ module _ (rs : List ℕ) where
     module _ {i low-sum high-sum : ℕ} (r : Read i low-sum high-sum) where
       pub bad-reading : i < 3600 → isReading (getD rs i 0) ≡ false → goodReadings rs ≡ false
       unfolding goodReadings every
-      bad-reading h bad = rw (eq-eqb (length rs) 3600 (r .long)) (r .good ∙ (rw (next i (omega arith), bad)))
+      bad-reading h bad = rw (eq-eqb (length rs) 3600 (r .long)) (r .good ∙ (rw (drop-next rs i 0 (omega arith), bad)))
 
       pub step : curvesRule cs ≡ true → Q low ≤ 1000 → Q high ≤ 1000 → i < 3600 → isReading (getD rs i 0) ≡ true →
           let r = getD rs i 0 in
@@ -84,7 +80,7 @@ module _ (rs : List ℕ) where
           record {
             long = r .long;
             within = omega arith;
-            good = r .good ∙ (rw (next i (omega arith), good));
+            good = r .good ∙ (rw (drop-next rs i 0 (omega arith), good));
             lows = one-more _ (r .lows) (omega arith) (omega (arith, responses-le low cs rule (lowDeviation (getD rs i 0))));
             highs = one-more _ (r .highs) (omega arith) (omega (arith, responses-le high cs rule (highDeviation (getD rs i 0))));
           }

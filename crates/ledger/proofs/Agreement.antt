@@ -11,7 +11,7 @@ use lib.IntN.{ℤ, pos, _+ℤ_, _-ℤ_}
 use lib.ListN.{length, getD, length-append}
 use Rattle.common.specs.Answer.{clear}
 use Rattle.common.specs.Lists.{sum}
-use Rattle.common.proofs.Lists.{sum-append}
+use Rattle.common.proofs.Lists.{sum-next}
 use Rattle.signed.specs.Sign.{above, below}
 use Rattle.signed.proofs.Whole.{whole, one-sided, less, same}
 use Rattle.signed.proofs.Whole as integers
@@ -44,10 +44,6 @@ delivered c = above (c .delivered)
 
 abbrev taken : Closing → ℕ
 taken c = above (c .taken)
-
-total-next : (f : Closing → ℕ) (h : History) (c : Closing) → total f (extend h c) ≡ total f h + f c
-unfolding sum
-total-next f h c = rw (map-append, sum-append) (omega arith)
 
 -- each entry of a list and of one that is longer by one
 most-next : (m : ℕ) (xs : List ℕ) (x : ℕ) → ((k : ℕ) → getD xs k 0 ≤ m) → x ≤ m → (k : ℕ) → getD (xs ++ (x ∷ [])) k 0 ≤ m
@@ -94,13 +90,13 @@ module _ (t : Terms) (curves : Curves) (size first : ℕ) (no-number : clear (op
       let longer = length-append h (c ∷ []) in
       let is = state-next b h c in
       record {
-        bought-most = omega (arith, whole, v .in-size, w .bought-most, fits .size-most, one-sided p, total-next bought h c);
-        sold-most = omega (arith, whole, v .in-size, w .sold-most, fits .size-most, one-sided p, total-next sold h c);
-        delivered-most = omega (arith, whole, o .possible .delivered-most, w .delivered-most, one-sided (c .delivered), total-next delivered h c, total-next (λ (c : Closing). b .low .bound (c .readings)) h c);
-        taken-most = omega (arith, whole, o .possible .taken-most, w .taken-most, one-sided (c .taken), total-next taken h c, total-next (λ (c : Closing). b .high .bound (c .readings)) h c);
+        bought-most = omega (arith, whole, v .in-size, w .bought-most, fits .size-most, one-sided p, sum-next bought h c);
+        sold-most = omega (arith, whole, v .in-size, w .sold-most, fits .size-most, one-sided p, sum-next sold h c);
+        delivered-most = omega (arith, whole, o .possible .delivered-most, w .delivered-most, one-sided (c .delivered), sum-next delivered h c, sum-next (λ (c : Closing). b .low .bound (c .readings)) h c);
+        taken-most = omega (arith, whole, o .possible .taken-most, w .taken-most, one-sided (c .taken), sum-next taken h c, sum-next (λ (c : Closing). b .high .bound (c .readings)) h c);
         low-bounds = rw map-append (most-next (500 * Q (t .low)) (bounds (b .low) h) (b .low .bound (c .readings)) (w .low-bounds) (bound-most (t .low) curves (fits .curves-hold) lowDeviation (c .readings) (o .possible .good)));
         high-bounds = rw map-append (most-next (500 * Q (t .high)) (bounds (b .high) h) (b .high .bound (c .readings)) (w .high-bounds) (bound-most (t .high) curves (fits .curves-hold) highDeviation (c .readings) (o .possible .good)));
-        adds-up = omega (arith, whole, o .possible .delivered-least, o .possible .taken-least, w .adds-up, new-is b h c, ap above is, ap below is, one-sided (c .delivered), one-sided (c .taken), total-next bought h c, total-next sold h c, total-next delivered h c, total-next taken h c);
+        adds-up = omega (arith, whole, o .possible .delivered-least, o .possible .taken-least, w .adds-up, new-is b h c, ap above is, ap below is, one-sided (c .delivered), one-sided (c .taken), sum-next bought h c, sum-next sold h c, sum-next delivered h c, sum-next taken h c);
       }
 
   module _ (h : History) (v : Passes b h) where
@@ -195,10 +191,10 @@ module _ (t : Terms) (curves : Curves) (size first : ℕ) (no-number : clear (op
           closed = sym (length-append h (c ∷ [])) i;
           low = entries-next (t .low) (b .low .bound) h c (o .before-eight) i;
           high = entries-next (t .high) (b .high .bound) h c (o .before-eight) i;
-          bought = sym (total-next bought h c) i;
-          sold = sym (total-next sold h c) i;
-          delivered = sym (total-next delivered h c) i;
-          taken = sym (total-next taken h c) i;
+          bought = sym (sum-next bought h c) i;
+          sold = sym (sum-next sold h c) i;
+          delivered = sym (sum-next delivered h c) i;
+          taken = sym (sum-next taken h c) i;
         }
       where
         new-state : above (newState (pos (above (stateAfter b h))) c) ≡ above (stateAfter b (extend h c))

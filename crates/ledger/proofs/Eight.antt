@@ -7,7 +7,7 @@ use lib.ListN.{length, getD, set, replicate, length-append}
 use lib.Seq.{append-snoc, set-at}
 use Rattle.common.specs.Lists.{sum}
 use Rattle.common.specs.Periods.{ofPeriod}
-use Rattle.common.proofs.Lists.{sum-append}
+use Rattle.common.proofs.Lists.{sum-append, sum-zeros}
 use Rattle.ledger.specs.Promise.{eightOf}
 
 module _ {A : Type 0} (none : A) where
@@ -36,10 +36,5 @@ module _ {A : Type 0} (none : A) where
 pub eight-periods : (xs : List ℕ) → ofPeriod (eightOf 0 xs) ≡ ofPeriod xs
 eight-periods xs = λ j i. eight-at 0 xs (i - 1) j
 
-zeros-sum : (m : ℕ) → sum (replicate m 0) ≡ 0
-unfolding sum
-zeros-sum zero = refl
-zeros-sum (suc m) = omega (arith, zeros-sum m)
-
 pub eight-sum : (xs : List ℕ) → sum (eightOf 0 xs) ≡ sum xs
-eight-sum xs = sum-append xs (replicate (8 - length xs) 0) ∙ omega (arith, zeros-sum (8 - length xs))
+eight-sum xs = sum-append xs (replicate (8 - length xs) 0) ∙ omega (arith, sum-zeros (8 - length xs))

@@ -2,19 +2,18 @@
 -- The invariant of a list of calls is that the record agrees with the closings carried out. Assumes nothing.
 use mathlib.Core.Path.{_≡_, refl, sym, ap, _∙_}
 use mathlib.Core.Logic.{_↔_, _⊎_, inl, inr}
-use mathlib.Core.Bool.{Bool, true, false, not, cond, _&&_}
+use mathlib.Core.Bool.{Bool, true, false, not, cond}
 use mathlib.Core.List.{List, [], _∷_, _++_, append-assoc, append-nil}
 use Prim.Native.Nat.{ℕ, _<_}
 use native.Mathlib.Omega.{arith}
-use borrow.Author.Tests.{eqb-true, eqb-false, eq-eqb, ne-eqb, not-true}
+use borrow.Author.Tests.{eqb-true, eqb-false, eq-eqb, ne-eqb, not-true, not-false}
 use lib.Dec.{eqb}
 use lib.IntN.{ℤ, pos}
 use lib.ListN.{length, drop, replicate}
-use Rattle.common.specs.Answer.{refused, given, isGiven, cause, checked, clear, orBlank}
+use Rattle.common.specs.Answer.{refused, given, isGiven, Cause, cause, checked, clear, orBlank}
 use Rattle.common.specs.Lists.{sum, every}
 use Rattle.common.specs.Periods.{periodsTo}
-use Rattle.common.proofs.Answers.{given-is, given-clear, given-value, orBlank-is, first-given}
-use Rattle.common.proofs.Tests.{not-not, both-true}
+use Rattle.common.proofs.Answers.{given-is, given-clear, given-value, orBlank-is, first-given, holdsOf, clear-of}
 use Rattle.terms.specs.declared.Terms.{Terms}
 use Rattle.energy.specs.Period.{goodReadings, lowDeviation, highDeviation}
 use Rattle.energy.specs.declared.curve.Curves.{Curves}
@@ -27,15 +26,6 @@ use Rattle.ledger.specs.Calls as calls
 use Rattle.ledger.specs.Promise.{Call, check, propose, close, after, run, Gives, History, done, carriedOut, Battery, NoCause, Open, Promise, battery, stateAfter, entriesAfter, recordAfter, Demand3}
 use Rattle.ledger.proofs.History.{Opened, Still, Passes, AllPass, all-passes, first-all, next-all, accepts, proposal, settled, no-cause, no-cause-accepts, no-cause-settled, proposal-nearest, safe, refused-exactly, refused-fails}
 use Rattle.ledger.proofs.Agreement.{Totals, no-totals, totals-next, rule-holds, usable-is, accepts-are, proposal-is, settles-are, closed-is}
-
--- the causes of a closing, of which none holds
-four : (u a g s : Bool) → not u && (not (not a) && (not (not g) && (not (not s) && true))) ≡ true → (u ≡ false) × (a ≡ true) × (g ≡ true) × (s ≡ true)
-four u a g s e =
-    let x = both-true (not u) (not (not a) && (not (not g) && (not (not s) && true))) e in
-    let y = both-true (not (not a)) (not (not g) && (not (not s) && true)) (x .1) in
-    let z = both-true (not (not g)) (not (not s) && true) (y .1) in
-    let w = both-true (not (not s)) true (z .1) in
-    (not-true u (x .0), sym (not-not a) ∙ y .0, sym (not-not g) ∙ z .0, sym (not-not s) ∙ w .0)
 
 module _ (t : Terms) (curves : Curves) (size first : ℕ) (no-number : clear (openingCauses t curves size first) ≡ true) where
   abbrev b : Battery
@@ -92,17 +82,29 @@ module _ (t : Terms) (curves : Curves) (size first : ℕ) (no-number : clear (op
         (λ e. eight-is .0 (w .0 e), λ e. w .1 (eight-is .1 e))
 
     -- ---- a closing is carried out exactly when none of its causes holds
-    given-exactly : (c : Closing) → isGiven (closing r c)
-        ≡ not (eqb (length h) 8) && (not (not (accepts b h (c .purchase))) && (not (not (goodReadings (c .readings))) && (not (not (settled b h c)) && true)))
+
+    -- its causes as the list gives them
+    abbrev listCauses : Closing → List Cause
+    listCauses c =
+        cause 10 (eqb (length h) 8)
+        ∷ cause 8 (not (accepts b h (c .purchase)))
+        ∷ cause 6 (not (goodReadings (c .readings)))
+        ∷ cause 9 (not (settled b h c))
+        ∷ []
+
+    given-exactly : (c : Closing) → isGiven (closing r c) ≡ clear (listCauses c)
     unfolding closing
     given-exactly c = given-is (closingCauses r c) (recordClosed r c) ∙ rw (usable, accepting (c .purchase), settling c)
 
     carried-exactly : (c : Closing) → isGiven (closing r c) ≡ true ↔ NoCause b h c
     carried-exactly c = (
       λ e.
-          let w = four (eqb (length h) 8) (accepts b h (c .purchase)) (goodReadings (c .readings)) (settled b h c) (sym (given-exactly c) ∙ e) in
-          let n = eqb-false (length h) 8 (w .0) in
-          no-cause b h c (omega (arith, n, passes .eight)) (w .1) (w .2) (w .3),
+          let none-holds : (k : ℕ) → holdsOf k (listCauses c) ≡ false = λ k. clear-of k (listCauses c) (sym (given-exactly c) ∙ e) in
+          let n = eqb-false (length h) 8 (none-holds 10) in
+          no-cause b h c (omega (arith, n, passes .eight))
+          (not-false (accepts b h (c .purchase)) (none-holds 8))
+          (not-false (goodReadings (c .readings)) (none-holds 6))
+          (not-false (settled b h c) (none-holds 9)),
       λ o.
           let n : eqb (length h) 8 ≡ false = ne-eqb (length h) 8 (λ e. omega (arith, o .before-eight)) in
           given-exactly c ∙ rw (n, no-cause-accepts b h c o, o .possible .good, no-cause-settled b h c o),
@@ -123,10 +125,8 @@ module _ (t : Terms) (curves : Curves) (size first : ℕ) (no-number : clear (op
       unfolding checking
       accepted-exactly p = (
         λ e.
-            let w = given-clear (cause 10 (unusable r) ∷ cause 8 (not (calls.accepts r p)) ∷ []) tt tt e in
-            let x = both-true (not (unusable r)) (not (not (calls.accepts r p)) && true) w in
-            let y = both-true (not (not (calls.accepts r p))) true (x .1) in
-            sym (accepting p) ∙ sym (not-not (calls.accepts r p)) ∙ y .0,
+            let causes = cause 10 (unusable r) ∷ cause 8 (not (calls.accepts r p)) ∷ [] in
+            sym (accepting p) ∙ not-false (calls.accepts r p) (clear-of 8 causes (given-clear causes tt tt e)),
         λ e. rw (is-usable, accepting p, e),
       )
 

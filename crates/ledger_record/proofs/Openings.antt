@@ -1,31 +1,22 @@
 -- What opening's checks let through, as facts. Assumes nothing.
 use mathlib.Core.Path.{_≡_}
-use mathlib.Core.Bool.{Bool, true, false, not, _&&_, _||_}
+use mathlib.Core.Bool.{true, false, _&&_, _||_}
 use Prim.Native.Nat.{ℕ, _+_, _≤_}
 use native.Mathlib.Omega.{arith}
-use borrow.Author.Tests.{ltb-false, not-true, not-false}
+use borrow.Author.Tests.{ltb-false, not-false}
 use lib.Dec.{ltb, eqb}
 use lib.IntN.{pos, _-ℤ_}
 use lib.Signed.{ltZ}
 use Rattle.common.specs.Answer.{clear}
-use Rattle.common.proofs.Tests.{both-true, neither}
+use Rattle.common.proofs.Answers.{holdsOf, clear-of}
+use Rattle.common.proofs.Tests.{neither}
 use Rattle.signed.proofs.Whole.{whole, less}
 use Rattle.signed.proofs.Orders.{ltZ-false}
-use Rattle.terms.specs.Terms.{Q, REV, above1000, limitsBroken}
+use Rattle.terms.specs.Terms.{Q, REV, above1000}
 use Rattle.terms.specs.declared.Terms.{Terms}
 use Rattle.energy.specs.Curve.{curvesRule}
 use Rattle.energy.specs.declared.curve.Curves.{Curves}
-use Rattle.ledger_record.specs.Opening.{sizeOut, firstOut, quantityOut, openingCauses}
-
-five : (a b c d e : Bool) → not a && (not b && (not c && (not d && (not e && true)))) ≡ true
-    → (a ≡ false) × (c ≡ false) × (d ≡ false) × (e ≡ false)
-five a b c d e h =
-    let x = both-true (not a) (not b && (not c && (not d && (not e && true)))) h in
-    let y = both-true (not b) (not c && (not d && (not e && true))) (x .1) in
-    let z = both-true (not c) (not d && (not e && true)) (y .1) in
-    let u = both-true (not d) (not e && true) (z .1) in
-    let v = both-true (not e) true (u .1) in
-    (not-true a (x .0), not-true c (z .0), not-true d (u .0), not-true e (v .0))
+use Rattle.ledger_record.specs.Opening.{openingCauses}
 
 module _ (t : Terms) (curves : Curves) (size first : ℕ) where
   pub record Fits : Type 0 where
@@ -41,18 +32,18 @@ module _ (t : Terms) (curves : Curves) (size first : ℕ) where
   unfolding openingCauses
   opening-fits e =
       let room = pos size -ℤ pos (REV (t .high)) in
-      let n = five (quantityOut t) (limitsBroken t) (not (curvesRule curves)) (sizeOut t size) (firstOut t size first) e in
+      let none-holds : (k : ℕ) → holdsOf k (openingCauses t curves size first) ≡ false = λ k. clear-of k (openingCauses t curves size first) e in
       let none = eqb (Q (t .low)) 0 && eqb (Q (t .high)) 0 in
-      let over = neither (above1000 (t .low) || above1000 (t .high)) none (n .0) .0 in
+      let over = neither (above1000 (t .low) || above1000 (t .high)) none (none-holds 1) .0 in
       let q = neither (above1000 (t .low)) (above1000 (t .high)) over in
-      let s = neither (ltb 10000000 size) (ltb size (REV (t .low) + REV (t .high))) (n .2) in
-      let f = neither (ltb first (REV (t .low))) (ltZ room (pos first)) (n .3) in
+      let s = neither (ltb 10000000 size) (ltb size (REV (t .low) + REV (t .high))) (none-holds 3) in
+      let f = neither (ltb first (REV (t .low))) (ltZ room (pos first)) (none-holds 4) in
       let most = ltZ-false room (pos first) (f .1) in
       let least : REV (t .low) + REV (t .high) ≤ size = ltb-false size (REV (t .low) + REV (t .high)) (s .1) in
       record {
         low-quantity = q .0;
         high-quantity = q .1;
-        curves-hold = not-false (curvesRule curves) (n .1);
+        curves-hold = not-false (curvesRule curves) (none-holds 5);
         size-most = ltb-false 10000000 size (s .0);
         size-least = least;
         first-least = ltb-false first (REV (t .low)) (f .0);

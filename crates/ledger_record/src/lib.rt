@@ -207,9 +207,9 @@ fn entry_holds(
     ensures { λ r. ⌜ r ≡ cond done (leb bound most && (eqZ requirement start && eqb schedule sched)) (eqb bound 0 && (eqZ requirement (pos 0) && eqb schedule 0)) ⌝ }
 {
     if done {
-        return (bound as u64 <= most) & (signed::same(requirement, start) & (schedule == sched));
+        return (bound as u64 <= most) & ((requirement == start) & (schedule == sched));
     }
-    (bound == 0) & (signed::same(requirement, 0) & (schedule == 0))
+    (bound == 0) & ((requirement == 0) & (schedule == 0))
 }
 
 fn entries_hold(q: Quantities, closed: u32, entries: Entries) -> bool

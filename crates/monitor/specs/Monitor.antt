@@ -7,7 +7,7 @@ use lib.IntN.{pos}
 use lib.ListN.{replicate}
 use lib.Signed.{leZ}
 use Rattle.common.specs.Answer.{Answer, refused, given, Cause, cause, checked}
-use Rattle.common.specs.Lists.{some}
+use Rattle.common.specs.Lists.{someEntry}
 use Rattle.common.specs.Periods.{periodsTo, ofPeriod}
 use Rattle.terms.specs.declared.Quantities.{Quantities}
 use Rattle.terms.specs.Terms.{Q, REV, ER, above1000}
@@ -66,8 +66,8 @@ zeroRows = replicate 8 zeroRow
 abbrev pub monitorCauses : Quantities → List ℕ → List ℕ → List Cause
 monitorCauses q bounds reported =
     cause 1 (above1000 q || eqb (Q q) 0)
-    ∷ cause 7 (some (ltb (500 * Q q)) bounds)
-    ∷ cause 11 (some (ltb 10000000) reported)
+    ∷ cause 7 (someEntry (ltb (500 * Q q)) bounds)
+    ∷ cause 11 (someEntry (ltb 10000000) reported)
     ∷ []
 
 unfoldable pub monitoring : Quantities → List ℕ → List ℕ → Answer (List Row)

@@ -2,7 +2,7 @@
 ghost use mathlib.Core.Path.{_≡_};
 ghost use lib.Dec.{ltb};
 ghost use Rattle.common.specs.Answer.{numberOf, orBlank};
-ghost use Rattle.common.specs.Lists.{some};
+ghost use Rattle.common.specs.Lists.{someEntry};
 ghost use Rattle.monitor.specs.Monitor.{judged, rowsOf, zeroRow, zeroRows, numbered, answerOf, monitoring};
 use terms::DirectionTerms;
 use terms::Quantities;
@@ -37,7 +37,7 @@ pub struct Monitored {
 
 // Whether some entry is above the limit.
 fn some_above(limit: u64, entries: [u32; 8]) -> bool
-    ensures { λ r. ⌜ r ≡ some (ltb limit) entries ⌝ }
+    ensures { λ r. ⌜ r ≡ someEntry (ltb limit) entries ⌝ }
 {
     let mut i: usize = 0;
     while i < 8 {

@@ -15,7 +15,7 @@ use Rattle.common.specs.Periods.{ofPeriod}
 use Rattle.common.proofs.Lists.{some-not}
 use Rattle.common.proofs.Periods.{period-at}
 use Rattle.common.proofs.Tests.{neither}
-use Rattle.common.proofs.Answers.{none-holds}
+use Rattle.common.proofs.Answers.{given-clear, holdsOf, clear-of}
 use Rattle.signed.specs.Sign.{above, below}
 use Rattle.signed.proofs.Whole.{less, one-sided}
 use Rattle.terms.specs.Terms.{Q, REV, ER, above1000}
@@ -111,9 +111,9 @@ module _ (input output : List ℕ) {out : List ℕ} (is : reporting input output
   rows = rowsOf (REV (x .quantities)) (ER (x .quantities)) (x .bounds) (x .reported)
 
   -- no cause holds, 1 and 7 among them
-  not-held : (i : ℕ) → getD (reportCauses input output) i (cause 0 false) .holds ≡ false
+  not-held : (k : ℕ) → holdsOf k (reportCauses input output) ≡ false
   unfolding reporting
-  not-held i = some-not (λ (c : Cause). c .holds) (reportCauses input output) i (cause 0 false) refl (none-holds (reportCauses input output) (written x output) is)
+  not-held k = clear-of k (reportCauses input output) (given-clear (reportCauses input output) (written x output) out is)
 
   quantity-most : Q (x .quantities) ≤ 1000
   unfolding reportCauses
@@ -123,7 +123,7 @@ module _ (input output : List ℕ) {out : List ℕ} (is : reporting input output
   unfolding reportCauses
   bound-most i =
       let n = 500 * Q (x .quantities) in
-      let h = ltb-false n (ofPeriod (x .bounds) i) (some-not (ltb n) (x .bounds) (i - 1) 0 (le-ltb n 0 (omega arith)) (not-held 2)) in
+      let h = ltb-false n (ofPeriod (x .bounds) i) (some-not (ltb n) (x .bounds) (i - 1) 0 (le-ltb n 0 (omega arith)) (not-held 7)) in
       omega (arith, quantity-most)
 
   pub rows-fit : (i : ℕ) (d : Row) → i < 8 → Each Fits (getD rows i d)

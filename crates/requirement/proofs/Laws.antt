@@ -11,8 +11,7 @@ use lib.IntN.{pos, _-ℤ_}
 use lib.Signed.{_≤ℤ_}
 use Rattle.common.specs.Lists.{sum}
 use Rattle.common.specs.Periods.{periodsTo}
-use Rattle.common.proofs.Lists.{sum-append}
-use Rattle.common.proofs.Periods.{map-next}
+use Rattle.common.proofs.Lists.{sum-next}
 use Rattle.signed.proofs.Whole.{whole, less}
 use Rattle.requirement.specs.Requirement.{left, sched, back, start}
 use Rattle.requirement.proofs.Shortfall.{shortfall, left-next, sched-le, back-le, start-is}
@@ -49,15 +48,11 @@ back-recovery ER e i = by (leb i 4)
 
 -- after any periods, all e equal all sched plus left
 module _ (ER : ℕ) (e : ℕ → ℕ) where
-  sum-next : (f : ℕ → ℕ) (n : ℕ) → sum (map f (periodsTo (suc n))) ≡ sum (map f (periodsTo n)) + f (suc n)
-  unfolding sum
-  sum-next f n = rw (map-next f n, sum-append) (omega arith)
-
   pub all-scheduled : (n : ℕ) → sum (map e (periodsTo n)) ≡ sum (map (sched ER e) (periodsTo n)) + left ER e (suc n)
   unfolding periodsTo sum left
   all-scheduled zero = refl
   all-scheduled (suc n) =
-      omega (arith, all-scheduled n, sum-next e n, sum-next (sched ER e) n, left-next ER e n, sched-le ER e (suc n))
+      omega (arith, all-scheduled n, sum-next e (periodsTo n) (suc n), sum-next (sched ER e) (periodsTo n) (suc n), left-next ER e n, sched-le ER e (suc n))
 
 -- a start depends only on the bounds of the periods before it, and so does what is left and what comes back
 module _ (ER : ℕ) (e f : ℕ → ℕ) where

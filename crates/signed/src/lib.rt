@@ -1,7 +1,7 @@
-// The few functions that cross between i64 and unsigned numbers. Nothing above this crate does signed arithmetic.
+// The few functions that cross between i64 and unsigned numbers. Above this crate signed numbers are compared and nothing else.
 ghost use mathlib.Core.Path.{_≡_};
 ghost use lib.IntN.{pos, _-ℤ_};
-ghost use Rattle.signed.specs.Sign.{above, below, nearest, eqZ};
+ghost use Rattle.signed.specs.Sign.{above, below, nearest};
 
 const MOST: u64 = 9_223_372_036_854_775_807;
 
@@ -33,10 +33,4 @@ pub fn difference(a: u64, b: u64) -> i64
         return -1 - common::smaller(b - a - 1, MOST) as i64;
     }
     common::smaller(a - b, MOST) as i64
-}
-
-pub fn same(a: i64, b: i64) -> bool
-    ensures { λ r. ⌜ r ≡ eqZ a b ⌝ }
-{
-    a == b
 }

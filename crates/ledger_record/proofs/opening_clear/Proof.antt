@@ -1,7 +1,6 @@
 -- `ledger_record::opening_clear` meets its contract. Assumes nothing.
-use mathlib.Core.Bool.{not, and-true}
+use mathlib.Core.Bool.{not, and-true, Bool·not-not}
 use borrow.Author.Needs.{needs}
-use Rattle.common.proofs.Tests.{not-not}
 use Rattle.energy.specs.Curve.{curvesRule}
 use Rattle.ledger_record.specs.Opening.{firstOut, openingCauses}
 use Rattle.ledger_record.proofs.opening_clear.Statement.{statement}
@@ -34,7 +33,7 @@ returns c =
       k .curves-hold .ensures,
       p .limits-broken .ensures,
       p .before .quantity-out .ensures,
-      not-not (curvesRule (p .before .before .args .curves)),
+      Bool·not-not (curvesRule (p .before .before .args .curves)),
       and-true (not (firstOut (p .before .before .args .t) (p .before .before .args .size) (p .before .before .args .first))),
     )
 

@@ -6,13 +6,13 @@ use borrow.Author.Needs.{needs}
 use borrow.Author.Tests.{lt-ltb, le-ltb}
 use lib.Dec.{ltb}
 use lib.ListN.{drop, length}
-use Rattle.common.specs.Lists.{some}
+use Rattle.common.specs.Lists.{someEntry}
 use Rattle.common.proofs.Lists.{some-found, some-passed, some-none}
 use Rattle.monitor.proofs.some_above.Statement.{statement}
 use Rattle.monitor.proofs.some_above.Tie as tie
 
 abbrev Inv-loop : tie.InvT-loop
-Inv-loop limit entries i₀ i = (i ≤ 8) × (some (ltb limit) (drop i entries) ≡ some (ltb limit) entries)
+Inv-loop limit entries i₀ i = (i ≤ 8) × (someEntry (ltb limit) (drop i entries) ≡ someEntry (ltb limit) entries)
 
 abbrev μ-loop : tie.MeasureT-loop
 μ-loop limit entries i₀ i = 8 - i

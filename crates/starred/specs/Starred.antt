@@ -7,7 +7,7 @@ use Prim.Native.Nat.{ℕ, _*_}
 use lib.IntN.{ℤ, pos, negℤ}
 use lib.ListN.{drop}
 use Rattle.common.specs.Answer.{numberOf, orBlank}
-use Rattle.common.specs.Lists.{sum, every, some, chain}
+use Rattle.common.specs.Lists.{sum, every, someEntry, chain}
 use Rattle.common.specs.Periods.{periodsTo}
 use Rattle.terms.specs.declared.Quantities.{Quantities}
 use Rattle.terms.specs.Terms.{REV, ER, limitsBroken}
@@ -144,5 +144,5 @@ starred =
     ∷ []
 
 starred-hold : map (λ (x : Example). x .given) starred ≡ map (λ (x : Example). x .printed) starred
-unfolding starred volumes containment regulation line bit nat highTable point lowPoints highPoints capabilities fullBattery left sched back start end rowOf periodsTo tableOf rowsOf monitoring some every sum shareFrom response chain curveRule curvesRule limitsBroken openingCauses opening startAt schedAt backAt entryRule entriesRule totalsRule stateRule recordRule unusable need accepts checking pointsRule capabilityFrom capabilityOf capabilityAnswer
+unfolding starred volumes containment regulation line bit nat highTable point lowPoints highPoints capabilities fullBattery left sched back start end rowOf periodsTo tableOf rowsOf monitoring someEntry every sum shareFrom response chain curveRule curvesRule limitsBroken openingCauses opening startAt schedAt backAt entryRule entriesRule totalsRule stateRule recordRule unusable need accepts checking pointsRule capabilityFrom capabilityOf capabilityAnswer
 starred-hold = refl
