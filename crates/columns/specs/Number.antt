@@ -5,8 +5,8 @@ use Prim.Native.Nat.{ℕ, zero, suc, _+_, _*_, _-_, _/_, _%_}
 use lib.Dec.{eqb, leb, ltb}
 use lib.IntN.{ℤ, pos, negsuc}
 use lib.ListN.{length, drop, replicate}
-use Rattle.report.specs.declared.Field.{Field}
-use Rattle.report.specs.declared.Field.the-variants.{Blank, Number, Malformed}
+use Rattle.columns.specs.declared.Field.{Field}
+use Rattle.columns.specs.declared.Field.the-variants.{Blank, Number, Malformed}
 
 -- ---- what text a number is
 
@@ -23,10 +23,14 @@ abbrev pub sign : Bool → List ℕ
 sign true = 45 ∷ []
 sign false = []
 
+-- n in k columns, after a - where one is asked for
+abbrev pub inColumns : ℕ → Bool → ℕ → List ℕ
+inColumns k minus n = right k (sign minus ++ digits k n)
+
 -- a number in k columns; below 0 it has a - before its first digit
 abbrev pub text : ℕ → ℤ → List ℕ
-text k (pos n) = right k (digits k n)
-text k (negsuc n) = right k (sign true ++ digits k (suc n))
+text k (pos n) = inColumns k false n
+text k (negsuc n) = inColumns k true (suc n)
 
 -- ---- what number a text is
 

@@ -1,0 +1,4 @@
+pub mod Reading
+pub mod Columns
+pub mod Placing
+pub mod RoundTrip
