@@ -63,8 +63,10 @@ pub fn number_at(line: &[u8], at: usize) -> Field
     if line.len() <= at {
         return Field::Blank;
     }
-    let width = if line.len() - at < 9 { line.len() - at } else { 9 };
-    read_number(&line[at..at + width])
+    if line.len() - at < 9 {
+        return read_number(&line[at..]);
+    }
+    read_number(&line[at..at + 9])
 }
 
 // ---- printing
@@ -102,9 +104,11 @@ fn next_column(rest: u64, minus: bool) -> Column
 
 // Fills the cell with n, right-justified, after a - where one is asked for.
 fn put(cell: &mut [u8], minus: bool, n: u64)
-    requires { ⌜ 0 < length (now cell) ⌝ }
     ensures { λ _. ⌜ now (cell .exit) ≡ Number.inColumns (length (now (cell .entry))) minus n ⌝ }
 {
+    if cell.len() == 0 {
+        return;
+    }
     let mut i = cell.len() - 1;
     cell[i] = 48 + (n % 10) as u8;
     let mut rest = n / 10;
@@ -122,7 +126,7 @@ fn put(cell: &mut [u8], minus: bool, n: u64)
 fn put_at(line: &mut [u8], at: usize, width: usize, minus: bool, n: u64)
     ensures { λ _. ⌜ now (line .exit) ≡ placed at (Number.inColumns width minus n) (now (line .entry)) ⌝ }
 {
-    if (width == 0) | (line.len() < width) {
+    if line.len() < width {
         return;
     }
     if line.len() - width < at {
