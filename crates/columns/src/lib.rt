@@ -1,6 +1,5 @@
 // Numbers as text: right-justified in columns, a number's line, and the number that nine columns hold.
 ghost use mathlib.Core.Path.{_≡_};
-ghost use mathlib.Core.List.{_++_};
 ghost use Prim.Native.Nat.{_<_, _≤_};
 ghost use lib.IntN.{pos};
 ghost use lib.ListN.{length};

@@ -27,7 +27,7 @@ use Rattle.report.specs.declared.Input.{Input}
 use Rattle.report.specs.Input.{inputOf}
 use Rattle.report.specs.Output.{bit}
 use Rattle.report.specs.Report.{reportCauses, written, reporting}
-use Rattle.report.proofs.RoundTrip.{Fits, Whole, printed-whole}
+use Rattle.columns.proofs.RoundTrip.{Fits, Whole, printed-whole}
 
 -- ---- the table of any bounds of at most `most`
 module _ (ER : ℕ) (e : ℕ → ℕ) (most : ℕ) (small : (i : ℕ) → e i ≤ most) where
