@@ -8,11 +8,11 @@ use lib.Dec.{eqb}
 use lib.ListN.{length, getD, take, drop, replicate}
 use Rattle.common.specs.Lists.{every}
 use Rattle.common.specs.Periods.{periodsTo}
-use Rattle.terms.specs.Terms.{noQuantities}
-use Rattle.terms.specs.declared.Quantities.{Quantities}
 use Rattle.columns.specs.Line.{numberAt}
 use Rattle.columns.specs.declared.Field.{Field}
 use Rattle.columns.specs.declared.Field.the-variants as Field
+use Rattle.terms.specs.Terms.{noQuantities}
+use Rattle.terms.specs.declared.Quantities.{Quantities}
 use Rattle.report.specs.declared.Line.{Line}
 use Rattle.report.specs.declared.Line.the-variants as Line
 use Rattle.report.specs.declared.Reader.{Reader}
