@@ -6,7 +6,7 @@ ghost use lib.ListN.{length};
 ghost use Rattle.columns.specs.Number as Number;
 ghost use Rattle.columns.specs.Line.{columnOf, placed, numberLine, numberAt};
 
-// What columns hold: blanks only, or a number.
+// What columns hold: blanks only, a number, or neither.
 pub enum Field {
     Blank,
     Number(u32),

@@ -4,7 +4,7 @@ use lib.IntN.{ℤ}
 use Rattle.terms.specs.declared.Terms.{Terms}
 use Rattle.capability.specs.declared.Limits.{Limits}
 
--- the quantities of the low and of the high service, then the limits on export and import
+-- both directions, and the power limits in kW
 abbrev pub termsOf : ℕ → ℕ → ℕ → ℕ → ℕ → ℕ → ℤ → ℤ → Terms
 termsOf lowDC lowDM lowDR highDC highDM highDR exportLimit importLimit =
     record {
@@ -14,6 +14,6 @@ termsOf lowDC lowDM lowDR highDC highDM highDR exportLimit importLimit =
       «import_limit» = importLimit;
     }
 
--- MIL, SIL, SEL, MEL and OL
+-- maximum and stable import limits, stable and maximum export limits, operating level
 abbrev pub limitsOf : ℤ → ℤ → ℤ → ℤ → ℤ → Limits
 limitsOf mil sil sel mel ol = record { mil = mil; sil = sil; sel = sel; mel = mel; ol = ol }
