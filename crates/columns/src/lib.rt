@@ -1,8 +1,8 @@
 // Numbers as text: right-justified in columns, a number's line, and the number that nine columns hold.
 ghost use mathlib.Core.Path.{_≡_};
-ghost use Prim.Native.Nat.{_<_, _≤_};
+ghost use Prim.Native.Nat.{_<_};
 ghost use lib.IntN.{pos};
-ghost use lib.ListN.{length};
+ghost use lib.ListN.{length, take};
 ghost use Rattle.columns.specs.Number as Number;
 ghost use Rattle.columns.specs.Line.{columnOf, placed, numberLine, numberAt};
 
@@ -41,31 +41,30 @@ fn next(f: Field, b: u8) -> Field
     }
 }
 
-// The number of at most nine columns.
-fn read_number(cell: &[u8]) -> Field
-    requires { ⌜ length (now cell) ≤ 9 ⌝ }
-    ensures { λ r. ⌜ r ≡ Number.number (now (cell .entry)) ⌝ }
+// The number in the first nine columns; of a text that ends before them, in those that it has.
+fn read_number(text: &[u8]) -> Field
+    ensures { λ r. ⌜ r ≡ Number.number (take 9 (now (text .entry))) ⌝ }
 {
     let mut f = Field::Blank;
     let mut i: usize = 0;
-    while i < cell.len() {
-        f = next(f, cell[i]);
+    while i < 9 {
+        if text.len() <= i {
+            return f;
+        }
+        f = next(f, text[i]);
         i += 1;
     }
     f
 }
 
-// The number in the nine columns from `at` on; of a line that ends before them, in those that it has.
+// The number in the nine columns of a line from `at` on; of a line that ends before them, in those that it has.
 pub fn number_at(line: &[u8], at: usize) -> Field
     ensures { λ r. ⌜ r ≡ numberAt at (now (line .entry)) ⌝ }
 {
     if line.len() <= at {
         return Field::Blank;
     }
-    if line.len() - at < 9 {
-        return read_number(&line[at..]);
-    }
-    read_number(&line[at..at + 9])
+    read_number(&line[at..])
 }
 
 // ---- printing
