@@ -11,7 +11,7 @@ use Rattle.columns.specs.declared.Column.{Column}
 use Rattle.columns.specs.declared.Field.{Field}
 
 -- a text in the columns of a line from `at` on; a line that has not all of them stays as it was
-abbrev pub placed : ℕ → List ℕ → List ℕ → List ℕ
+unfoldable pub placed : ℕ → List ℕ → List ℕ → List ℕ
 placed at t line = cond (leb (at + length t) (length line)) (paste line at t (length t)) line
 
 -- a refusal prints its number in nine columns and a line feed

@@ -1,13 +1,12 @@
 // Numbers as text: right-justified in columns, a number's line, and the number that nine columns hold.
 ghost use mathlib.Core.Path.{_≡_};
-ghost use mathlib.Core.List.{_++_};
-ghost use Prim.Native.Nat.{_<_, _≤_};
+ghost use Prim.Native.Nat.{_<_};
 ghost use lib.IntN.{pos};
-ghost use lib.ListN.{length};
+ghost use lib.ListN.{length, take};
 ghost use Rattle.columns.specs.Number as Number;
 ghost use Rattle.columns.specs.Line.{columnOf, placed, numberLine, numberAt};
 
-// What columns hold: blanks only, or a number.
+// What columns hold: blanks only, a number, or neither.
 pub enum Field {
     Blank,
     Number(u32),
@@ -42,29 +41,30 @@ fn next(f: Field, b: u8) -> Field
     }
 }
 
-// The number of at most nine columns.
-fn read_number(cell: &[u8]) -> Field
-    requires { ⌜ length (now cell) ≤ 9 ⌝ }
-    ensures { λ r. ⌜ r ≡ Number.number (now (cell .entry)) ⌝ }
+// The number in the first nine columns; of a text that ends before them, in those that it has.
+fn read_number(text: &[u8]) -> Field
+    ensures { λ r. ⌜ r ≡ Number.number (take 9 (now (text .entry))) ⌝ }
 {
     let mut f = Field::Blank;
     let mut i: usize = 0;
-    while i < cell.len() {
-        f = next(f, cell[i]);
+    while i < 9 {
+        if text.len() <= i {
+            return f;
+        }
+        f = next(f, text[i]);
         i += 1;
     }
     f
 }
 
-// The number in the nine columns from `at` on; of a line that ends before them, in those that it has.
+// The number in the nine columns of a line from `at` on; of a line that ends before them, in those that it has.
 pub fn number_at(line: &[u8], at: usize) -> Field
     ensures { λ r. ⌜ r ≡ numberAt at (now (line .entry)) ⌝ }
 {
     if line.len() <= at {
         return Field::Blank;
     }
-    let width = if line.len() - at < 9 { line.len() - at } else { 9 };
-    read_number(&line[at..at + width])
+    read_number(&line[at..])
 }
 
 // ---- printing
@@ -102,9 +102,11 @@ fn next_column(rest: u64, minus: bool) -> Column
 
 // Fills the cell with n, right-justified, after a - where one is asked for.
 fn put(cell: &mut [u8], minus: bool, n: u64)
-    requires { ⌜ 0 < length (now cell) ⌝ }
     ensures { λ _. ⌜ now (cell .exit) ≡ Number.inColumns (length (now (cell .entry))) minus n ⌝ }
 {
+    if cell.len() == 0 {
+        return;
+    }
     let mut i = cell.len() - 1;
     cell[i] = 48 + (n % 10) as u8;
     let mut rest = n / 10;
@@ -122,7 +124,7 @@ fn put(cell: &mut [u8], minus: bool, n: u64)
 fn put_at(line: &mut [u8], at: usize, width: usize, minus: bool, n: u64)
     ensures { λ _. ⌜ now (line .exit) ≡ placed at (Number.inColumns width minus n) (now (line .entry)) ⌝ }
 {
-    if (width == 0) | (line.len() < width) {
+    if line.len() < width {
         return;
     }
     if line.len() - width < at {

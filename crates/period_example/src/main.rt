@@ -14,7 +14,7 @@ use libc::STDOUT_FILENO;
 use terms::Quantities;
 
 fn write_number(n: u64) {
-    let line = report::number_line(n);
+    let line = columns::number_line(n);
     io::write_all(STDOUT_FILENO, &line);
 }
 

@@ -1,7 +1,7 @@
 -- The numbers of every row that the report prints fit their columns: nothing of them is cut off.
 -- The quantity is at most 1,000 MW, so REV is at most 1,000,000 and a bound at most 500,000. Eight bounds make at most 4,000,000:
 -- starts lie between −4,000,000 and 1,000,000, and what is scheduled, comes back or is left is at most 4,000,000. Assumes nothing.
-use mathlib.Core.Path.{_≡_, refl}
+use mathlib.Core.Path.{_≡_}
 use mathlib.Core.Bool.{Bool, true, false}
 use mathlib.Core.List.{List}
 use Prim.Native.Nat.{ℕ, zero, suc, _*_, _-_, _≤_, _<_}
@@ -10,7 +10,7 @@ use borrow.Author.Tests.{ltb-false, le-ltb}
 use lib.Dec.{ltb, eqb}
 use lib.IntN.{ℤ, pos, _-ℤ_}
 use lib.ListN.{getD}
-use Rattle.common.specs.Answer.{given, Cause, cause}
+use Rattle.common.specs.Answer.{given}
 use Rattle.common.specs.Periods.{ofPeriod}
 use Rattle.common.proofs.Lists.{some-not}
 use Rattle.common.proofs.Periods.{period-at}
@@ -18,6 +18,7 @@ use Rattle.common.proofs.Tests.{neither}
 use Rattle.common.proofs.Answers.{given-clear, holdsOf, clear-of}
 use Rattle.signed.specs.Sign.{above, below}
 use Rattle.signed.proofs.Whole.{less, one-sided}
+use Rattle.columns.proofs.RoundTrip.{Fits, Whole, printed-whole}
 use Rattle.terms.specs.Terms.{Q, REV, ER, above1000}
 use Rattle.requirement.specs.Requirement.{left, sched, back, start, end, rowOf}
 use Rattle.requirement.proofs.Shortfall.{shortfall, left-next, sched-le, back-le, start-is, start-next}
@@ -27,7 +28,6 @@ use Rattle.report.specs.declared.Input.{Input}
 use Rattle.report.specs.Input.{inputOf}
 use Rattle.report.specs.Output.{bit}
 use Rattle.report.specs.Report.{reportCauses, written, reporting}
-use Rattle.report.proofs.RoundTrip.{Fits, Whole, printed-whole}
 
 -- ---- the table of any bounds of at most `most`
 module _ (ER : ℕ) (e : ℕ → ℕ) (most : ℕ) (small : (i : ℕ) → e i ≤ most) where

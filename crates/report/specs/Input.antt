@@ -1,25 +1,28 @@
 -- Paper 01, "Report": the input, nine lines ended by a line feed, 189 bytes. Assumes nothing.
+use mathlib.Core.Path.{_≡_}
 use mathlib.Core.Bool.{Bool, true, false, cond, _&&_, _||_}
 use mathlib.Core.List.{List, _∷_, map}
 use Prim.Native.Nat.{ℕ, zero, suc, _+_, _*_}
+use denote.Ref.{now}
 use lib.Dec.{eqb}
 use lib.ListN.{length, getD, take, drop, replicate}
 use Rattle.common.specs.Lists.{every}
 use Rattle.common.specs.Periods.{periodsTo}
+use Rattle.columns.specs.Line.{numberAt}
+use Rattle.columns.specs.declared.Field.{Field}
+use Rattle.columns.specs.declared.Field.the-variants as Field
 use Rattle.terms.specs.Terms.{noQuantities}
 use Rattle.terms.specs.declared.Quantities.{Quantities}
-use Rattle.report.specs.declared.Field.{Field}
-use Rattle.report.specs.declared.Field.the-variants as Field
 use Rattle.report.specs.declared.Line.{Line}
 use Rattle.report.specs.declared.Line.the-variants as Line
+use Rattle.report.specs.declared.Reader.{Reader}
 use Rattle.report.specs.declared.Input.{Input}
-use Rattle.report.specs.Number.{number}
 
 -- ---- a line
 
 -- number i of a line, counted from 0, stands in nine columns
 abbrev pub column : ℕ → List ℕ → Field
-column i line = number (take 9 (drop (9 * i) line))
+column i line = numberAt (9 * i) line
 
 -- a line of k numbers has its line feed after them
 abbrev pub ended : ℕ → List ℕ → Bool
@@ -54,6 +57,12 @@ unfoldable pub lineAt : List ℕ → ℕ → Line
 lineAt text zero = Line.Malformed
 lineAt text (suc zero) = termsOf (take 37 text)
 lineAt text (suc (suc before)) = energiesOf (take 19 (drop (37 + 19 * before) text))
+
+-- a reader gives its line, keeps its text and goes on to the next line
+pub record MovedOn (before after : Reader) (line : Line) : Type 0 where
+  pub gives : line ≡ lineAt (now (before .text)) (before .line)
+  pub keeps : after .text ≡ before .text
+  pub goes-on : after .line ≡ before .line + 1
 
 -- the line of period i is line i + 1
 unfoldable pub periodLines : List ℕ → List Line

@@ -1,4 +1,3 @@
 pub mod Input
-pub mod Number
 pub mod Output
 pub mod Report

@@ -3,8 +3,8 @@ use mathlib.Core.Bool.{Bool, true, false}
 use mathlib.Core.List.{List, [], _∷_, _++_}
 use Prim.Native.Nat.{ℕ}
 use lib.IntN.{pos}
+use Rattle.columns.specs.Number.{text}
 use Rattle.monitor.specs.declared.Row.{Row}
-use Rattle.report.specs.Number.{text}
 
 -- 1 allowed, 1 pass
 abbrev pub bit : Bool → ℕ
@@ -29,7 +29,3 @@ lineOf r =
 unfoldable pub table : List Row → List ℕ
 table [] = []
 table (r ∷ rs) = lineOf r ++ table rs
-
--- a refusal prints its number in nine columns and a line feed
-unfoldable pub numberLine : ℕ → List ℕ
-numberLine n = text 9 (pos n) ++ (10 ∷ [])

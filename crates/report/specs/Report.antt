@@ -5,7 +5,7 @@ use mathlib.Core.List.{List, [], _∷_, _++_}
 use Prim.Native.Nat.{ℕ}
 use lib.Dec.{ltb}
 use lib.ListN.{length, drop}
-use Rattle.common.specs.Answer.{Answer, refused, given, Cause, cause, checked}
+use Rattle.common.specs.Answer.{Answer, refused, given, orBlank, Cause, cause, checked}
 use Rattle.terms.specs.Terms.{REV, ER}
 use Rattle.monitor.specs.Monitor.{monitorCauses, rowsOf}
 use Rattle.report.specs.Input.{wellFormed, inputOf}
@@ -28,11 +28,15 @@ written i output = table (rowsOf (REV (i .quantities)) (ER (i .quantities)) (i .
 unfoldable pub reporting : List ℕ → List ℕ → Answer (List ℕ)
 reporting input output = checked (reportCauses input output) (written (inputOf input) output)
 
+-- every byte of the output afterwards; where the call is refused, those of before
+abbrev pub outputAfter : List ℕ → List ℕ → List ℕ
+outputAfter input output = orBlank output (reporting input output)
+
 -- the number, or what is given, of each case of the code's answer
-abbrev pub numbered : {A : Type 0} → ReportAnswer → A → Answer A
-numbered Written a = given a
-numbered Malformed a = refused 13
-numbered Quantity a = refused 1
-numbered Bound a = refused 7
-numbered Reported a = refused 11
-numbered Short a = refused 14
+abbrev pub answerWith : {A : Type 0} → ReportAnswer → A → Answer A
+answerWith Written a = given a
+answerWith Malformed a = refused 13
+answerWith Quantity a = refused 1
+answerWith Bound a = refused 7
+answerWith Reported a = refused 11
+answerWith Short a = refused 14

@@ -4,7 +4,7 @@ use libc::STDOUT_FILENO;
 
 fn show(input: &[u8], output: &mut [u8]) {
     let number = report::number(report::report(input, output));
-    let line = report::number_line(number as u64);
+    let line = columns::number_line(number as u64);
     io::write_all(STDOUT_FILENO, &line);
 }
 

@@ -13,6 +13,7 @@ use mir.Facts.{toZ-ofZ}
 use Rattle.signed.proofs.Signs.{nearest-sub}
 use Rattle.capability.specs.declared.Limits.{Limits}
 use Rattle.capability.specs.Capability.{answerOf, quantityAnswer}
+use Rattle.host.specs.Arguments.{limitsOf}
 use Rattle.host.specs.Points.{pointsIn, quantityIn}
 use Rattle.host.proofs.Quantities.{quantity-most}
 use Rattle.host.proofs.soe_quantity.Statement.{statement}
@@ -23,7 +24,7 @@ module _ (c : tie.After-quantity) where
   start = c .before .before .before .before .before
 
   abbrev limits : Limits
-  limits = let a = start .args in record { mil = a .mil; sil = a .sil; sel = a .sel; mel = a .mel; ol = a .ol }
+  limits = let a = start .args in limitsOf (a .mil) (a .sil) (a .sel) (a .mel) (a .ol)
 
   answered : answerOf (c .quantity .result) ≡ quantityAnswer (start .args .direction) limits (pointsIn (now (start .args .points))) (start .args .limit)
   answered =

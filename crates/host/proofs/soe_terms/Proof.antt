@@ -3,6 +3,7 @@ use mathlib.Core.Path.{_≡_, ap}
 use borrow.Author.Needs.{needs, sfits-of}
 use mir.Facts.{toZ-ofZ}
 use Rattle.terms.specs.Terms.{answerOf, termsCheck}
+use Rattle.host.specs.Arguments.{termsOf}
 use Rattle.host.specs.Convention.{coded, done}
 use Rattle.host.proofs.Numbers.{coded-number}
 use Rattle.host.proofs.soe_terms.Statement.{statement}
@@ -20,12 +21,7 @@ refusal-requires c κs = search needs
 answered : (c : tie.After-check) →
     let a = c .before .args in
     coded done (answerOf (c .check .result))
-    ≡ coded done (termsCheck (record {
-      low = record { dc = a .low-dc; dm = a .low-dm; dr = a .low-dr };
-      high = record { dc = a .high-dc; dm = a .high-dm; dr = a .high-dr };
-      «export_limit» = a .export-limit;
-      «import_limit» = a .import-limit;
-    }))
+    ≡ coded done (termsCheck (termsOf (a .low-dc) (a .low-dm) (a .low-dr) (a .high-dc) (a .high-dm) (a .high-dr) (a .export-limit) (a .import-limit)))
 answered c =
     let s = c .before in
     ap (coded done) (rw (toZ-ofZ (s .fits .export-limit), toZ-ofZ (s .fits .import-limit)) at (c .check .ensures))

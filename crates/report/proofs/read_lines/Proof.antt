@@ -50,7 +50,7 @@ use denote.Triple.Spec.{Meets, tripleOf}
 use denote.Triple.Table.{entered, cited}
 use denote.Triple.Walked.{says, Stays, stay-none-slice, walkOf, goes-none-slice, Walks, ends-at, walked, walk-meets}
 use denote.Exit.{yes as kept}
-use Rattle.report.specs.Input.{lineAt, linesOf}
+use Rattle.report.specs.Input.{MovedOn, linesOf}
 use Rattle.report.specs.declared.Reader.{Reader}
 use Rattle.report.specs.declared.Line.{Line}
 use Rattle.report.specs.declared.Line.the-variants as Line
@@ -227,10 +227,6 @@ module _ {M : Type 1} (𝓤 : URA M) (H : Heap 𝓤) (A : Atoms 𝓤) (W : Given
         qed W (Tokens 𝓤 H A W R κ q l 0 (n .0) ∷ ‵ (MutRef (named 0) (n .0 ∷ κ) R .own (lent i l n .0) (vptr l 0 ∷ [])) ∷ []) ∵ says ! (omega arith) $
         frame ! $ nothing ! $ move ! (1 ∷ 0 ∷ []) $ fjoin ! $ done !
 
-    -- what it ensures: the line, and the reader's last value
-    abbrev Gave : ℕ → Line → Reader → Type 0
-    Gave i l r = (l ≡ lineAt (now s) (i + 1)) × (r .text ≡ s) × (r .line ≡ i + 1 + 1)
-
     module _ (𝓣 : Tables 𝓤 H) (new-known : Triple 𝓤 (𝓣 .C #report·reader-of) (New 𝓤 H A at-mem run)) (next-known : Triple 𝓤 (𝓣 .C #report·next-line) (Next 𝓤 H A at-mem run))
         (none-known : Triple 𝓤 (𝓣 .C #report·no-lines) (None 𝓤 H A at-mem run)) where
       abbrev C : Calls 𝓤 H
@@ -278,9 +274,9 @@ module _ {M : Type 1} (𝓤 : URA M) (H : Heap 𝓤) (A : Atoms 𝓤) (W : Given
             -- the reader is lent
             move ! (22 ∷ 1 ∷ []) $ use2 W (later (some (Lent 𝓤 H A W R κ q l₂ 0 (named 0) (moved (t .0))))) (lends 𝓤 H A W R κ q l₂ 0 (named 0) (moved (t .0))) $ await ! tt $ pick ! (λ n. split ! $ move ! (1 ∷ []) $ split ! $
             move ! (2 ∷ 0 ∷ []) $ use2 W (raw (Next 𝓤 H A at-mem run .pre (to-next (t .0) l₂ n))) (goes-next (t .0) l₂ n less) $
-            calls-known ! (fmOf 𝓤 H (W .laws) 𝓣) next.ended (next.clauses 𝓤 H A at-mem run) next-known (to-next (t .0) l₂ n) (and-then ! (load ! (from ! (stop !)) (look ! 9 refl)) (no-more !)) (λ l ws. Gave (t .0) l (ws .0)) (λ l ws. id⊢ 𝓤 _) (λ u l ws e.
+            calls-known ! (fmOf 𝓤 H (W .laws) 𝓣) next.ended (next.clauses 𝓤 H A at-mem run) next-known (to-next (t .0) l₂ n) (and-then ! (load ! (from ! (stop !)) (look ! 9 refl)) (no-more !)) (λ l ws. MovedOn (moved (t .0)) (ws .0) l) (λ l ws. id⊢ 𝓤 _) (λ u l ws e.
             -- the reader comes back, with the next line's number
-            move ! (2 ∷ []) $ fsplit ! $ rewrite ! 0 (λ (r : Reader). ‵ (fres (n .1) (R .coded .code r))) (λ j. record { text = e .1 j; line = e .2 j }) refl $ move ! (2 ∷ 4 ∷ 0 ∷ []) $
+            move ! (2 ∷ []) $ fsplit ! $ rewrite ! 0 (λ (r : Reader). ‵ (fres (n .1) (R .coded .code r))) (λ j. record { text = e .keeps j; line = e .goes-on j }) refl $ move ! (2 ∷ 4 ∷ 0 ∷ []) $
             use3 W (later (‵ (mem R .lies (moved (t .0 + 1)) l₂ 0) ⊛ ‵ (flft κ q))) (comes-back 𝓤 H A W R κ q l₂ 0 (n .0) (n .1) (moved (t .0 + 1))) $ await ! tt $ split ! $
             move ! (3 ∷ []) $ facts ! S.the-row (Is S.the-row) (shows 𝓤 H A S.the-row) l (u ∷ []) (λ il.
             -- [the reader; the token; …; what text owns; _12; …; _3; …; what is left of _2; _1; …; _0; …]
@@ -294,7 +290,7 @@ module _ {M : Type 1} (𝓤 : URA M) (H : Heap 𝓤) (A : Atoms 𝓤) (W : Given
             -- [the element; what it owns; the others; the reader; the token; …; what text owns; _12; …; _4; …]
             assigns ! (of-opd ! (load ! (from ! (stop !)) (look ! 15 refl))) (from ! (hop ! (look ! 7 refl) (stop !))) (store-raw ! 0 refl (line-typed l u il)) $
             move ! (1 ∷ []) $ drop ! $ owned ! S.the-row (Is S.the-row) line-made l (u ∷ []) il $ move ! (1 ∷ 0 ∷ []) $ elem-put ! S.the-row fullShare (read (t .0)) (t .0) l (u ∷ []) l₃ 0 within $
-            rewrite ! 0 (λ (xs : List Line). ‵ (row S.the-row fullShare xs l₃ 0)) (one-more (now s) (t .0) l (e .0)) refl $
+            rewrite ! 0 (λ (xs : List Line). ‵ (row S.the-row fullShare xs l₃ 0)) (one-more (now s) (t .0) l (e .gives)) refl $
             assigns-last ! (bin ! (load ! (from ! (stop !)) (look ! 21 refl)) (lit ! tt) (record { fits = omega arith })) (from ! (stop !)) (store ! 21 refl (tt, record { fits = omega arith })) $
             forget ! 15 refl $ forget ! 13 refl $ forget ! 11 refl $ forget ! 9 refl $ forget ! 7 refl $ forget ! 5 refl $
             keep ! (4 ∷ 2 ∷ 5 ∷ 6 ∷ 7 ∷ 8 ∷ 9 ∷ 10 ∷ 11 ∷ 12 ∷ 13 ∷ 14 ∷ 15 ∷ 16 ∷ 17 ∷ 18 ∷ 19 ∷ 20 ∷ 21 ∷ 22 ∷ 0 ∷ 23 ∷ 1 ∷ 24 ∷ 25 ∷ 26 ∷ 27 ∷ 28 ∷ []) $
