@@ -18,7 +18,7 @@ use Rattle.common.proofs.Tests.{neither}
 use Rattle.common.proofs.Answers.{given-clear, holdsOf, clear-of}
 use Rattle.signed.specs.Sign.{above, below}
 use Rattle.signed.proofs.Whole.{less, one-sided}
-use Rattle.columns.proofs.RoundTrip.{Fits, Whole, printed-whole}
+use Rattle.columns.proofs.RoundTrip.{FitsIn, Whole, printed-whole}
 use Rattle.terms.specs.Terms.{Q, REV, ER, above1000}
 use Rattle.requirement.specs.Requirement.{left, sched, back, start, end, rowOf}
 use Rattle.requirement.proofs.Shortfall.{shortfall, left-next, sched-le, back-le, start-is, start-next}
@@ -66,7 +66,7 @@ pub record Each (holds : ℕ → ℤ → Type 0) (r : Row) : Type 0 where
   pub flag : holds 2 (pos (bit (r .flag)))
   pub verdict : holds 2 (pos (bit (r .verdict)))
 
-pub fits-whole : (r : Row) → Each Fits r → Each Whole r
+pub fits-whole : (r : Row) → Each FitsIn r → Each Whole r
 fits-whole r f =
     record {
       period = printed-whole 0 (pos (r .period)) (f .period);
@@ -80,12 +80,12 @@ fits-whole r f =
       verdict = printed-whole 0 (pos (bit (r .verdict))) (f .verdict);
     }
 
-bit-fits : (b : Bool) → Fits 2 (pos (bit b))
+bit-fits : (b : Bool) → FitsIn 2 (pos (bit b))
 bit-fits true = omega arith
 bit-fits false = omega arith
 
 module _ (REV ER : ℕ) (bounds reported : List ℕ) (rev : REV ≤ 1000000) (small : (i : ℕ) → ofPeriod bounds i ≤ 500000) where
-  row-fits : (i : ℕ) → i < 8 → Each Fits (judgedRow REV ER bounds reported (suc i))
+  row-fits : (i : ℕ) → i < 8 → Each FitsIn (judgedRow REV ER bounds reported (suc i))
   unfolding rowOf
   row-fits i h =
       let e = ofPeriod bounds in
@@ -126,7 +126,7 @@ module _ (input output : List ℕ) {out : List ℕ} (is : reporting input output
       let h = ltb-false n (ofPeriod (x .bounds) i) (some-not (ltb n) (x .bounds) (i - 1) 0 (le-ltb n 0 (omega arith)) (not-held 7)) in
       omega (arith, quantity-most)
 
-  pub rows-fit : (i : ℕ) (d : Row) → i < 8 → Each Fits (getD rows i d)
+  pub rows-fit : (i : ℕ) (d : Row) → i < 8 → Each FitsIn (getD rows i d)
   unfolding rowsOf
   rows-fit i d h =
       rw (period-at (judgedRow (REV (x .quantities)) (ER (x .quantities)) (x .bounds) (x .reported)) 8 i d h)
