@@ -9,7 +9,7 @@ ghost use Rattle.common.specs.Fraction.{roundedDown};
 ghost use Rattle.common.specs.Lists.{every};
 ghost use Rattle.signed.specs.Sign.{above, below, eqZ};
 ghost use Rattle.capability.specs.Capability.{inRange, limitsRule, wholeRange, headroom, footroom, directionRule, roomOf};
-ghost use Rattle.capability.specs.Capability.{pointInRange, rises, pointsRule, line, capabilityOf};
+ghost use Rattle.capability.specs.Capability.{pointInRange, rises, pointsRule, Segment, line, capabilityOf};
 ghost use Rattle.capability.specs.Capability.{answerOf, roomAnswer, capabilityAnswer, quantityAnswer};
 
 // Maximum and stable import limits, stable and maximum export limits, operating level.
@@ -132,7 +132,7 @@ fn point_in_range(p: Point) -> bool
     (p.room <= 4_000_000) & (p.capability <= 4_000_000)
 }
 
-fn rises_to(p: Point, q: Point) -> bool
+fn rises(p: Point, q: Point) -> bool
     ensures { λ r. ⌜ r ≡ rises p q ⌝ }
 {
     (p.room < q.room) & (p.capability <= q.capability)
@@ -153,7 +153,7 @@ fn points_hold(ps: Points) -> bool
     let mut i: usize = 1;
     while i < count {
         let next = points[i];
-        if !(point_in_range(last) & rises_to(last, next)) {
+        if !(point_in_range(last) & rises(last, next)) {
             return false;
         }
         last = next;
@@ -163,7 +163,7 @@ fn points_hold(ps: Points) -> bool
 }
 
 fn rounded_down(numerator: u64, denominator: u64) -> u64
-    requires { ⌜ (numerator < 2 ^ 63) × (0 < denominator) × (denominator < 2 ^ 63) ⌝ }
+    requires { ⌜ (0 < denominator) × (numerator + denominator < 2 ^ 64) ⌝ }
     ensures { λ r. ⌜ r ≡ numerator / denominator ⌝ }
 {
     numerator / denominator
@@ -171,7 +171,7 @@ fn rounded_down(numerator: u64, denominator: u64) -> u64
 
 // The line through two points, rounded down.
 fn on_line(p: Point, q: Point, room: u32) -> u64
-    requires { ⌜ (p .room < q .room) × (q .room ≤ 4000000) × (p .capability ≤ q .capability) × (q .capability ≤ 4000000) × (p .room ≤ room) ⌝ }
+    requires { ⌜ Segment p q × (p .room ≤ room) ⌝ }
     ensures { λ r. ⌜ r ≡ roundedDown (line p q room) ⌝ }
 {
     let width = (q.room - p.room) as u64;
