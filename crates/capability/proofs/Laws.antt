@@ -1,16 +1,16 @@
 -- What holds of every room: where the limits keep their rule, it is 0 to 4,000,000. Assumes nothing.
-use mathlib.Core.Path.{_≡_, refl, sym, subst}
-use mathlib.Core.Bool.{Bool, true, false, cond, _&&_, _||_}
-use mathlib.Core.List.{List, [], _∷_}
+use mathlib.Core.Path.{_≡_}
+use mathlib.Core.Bool.{true, cond, _&&_, _||_}
+use mathlib.Core.List.{[], _∷_}
 use Prim.Native.Nat.{ℕ, _+_, _^_, _≤_, _<_}
 use native.Mathlib.Omega.{arith}
-use lib.Dec.{T, eqb}
+use lib.Dec.{eqb}
 use lib.IntN.{ℤ, pos, negsuc, negℤ, _-ℤ_}
 use mir.Syntax.{w64}
 use mir.Val.{SFits}
 use lib.Signed.{leZ, mag, _≤ℤ_, ≤ℤ-refl}
 use Rattle.common.specs.Lists.{every}
-use Rattle.signed.specs.Sign.{above, below, within}
+use Rattle.signed.specs.Sign.{above, below}
 use Rattle.signed.proofs.Orders.{leZ-true, within-true}
 use Rattle.signed.proofs.Whole.{whole, less, same, ≤-read, one-sided}
 use Rattle.common.proofs.Tests.{both-true, by-test}

@@ -1,13 +1,11 @@
 // Headroom and footroom, response capability and contracted quantity of a unit, in kW.
 ghost use mathlib.Core.Path.{_≡_};
-ghost use mathlib.Core.Bool.{true, cond};
+ghost use mathlib.Core.Bool.{true};
 ghost use mathlib.Core.List.{[], _∷_};
 ghost use Prim.Native.Nat.{_+_, _/_, _^_, _≤_, _<_};
-ghost use lib.IntN.{pos, _-ℤ_};
 ghost use lib.Signed.{leZ};
 ghost use Rattle.common.specs.Fraction.{roundedDown};
 ghost use Rattle.common.specs.Lists.{every};
-ghost use Rattle.signed.specs.Sign.{above, below, eqZ};
 ghost use Rattle.capability.specs.Capability.{inRange, limitsRule, wholeRange, headroom, footroom, directionRule, roomOf};
 ghost use Rattle.capability.specs.Capability.{pointInRange, rises, pointsRule, Segment, line, capabilityOf};
 ghost use Rattle.capability.specs.Capability.{answerOf, roomAnswer, capabilityAnswer, quantityAnswer};

@@ -1,7 +1,7 @@
 -- The points of a curve: what its rule says of each, and the loops that pass them one by one. Assumes nothing.
 use mathlib.Core.Path.{_≡_, subst, _∙_}
 use mathlib.Core.Bool.{true, false, _&&_}
-use mathlib.Core.List.{List, [], _∷_}
+use mathlib.Core.List.{List, _∷_}
 use Prim.Native.Nat.{ℕ, _+_, _*_, _≤_, _<_}
 use native.Mathlib.Nat.{mul-zero, zero-mul}
 use native.Mathlib.Omega.{arith}
