@@ -2,15 +2,13 @@
 use mathlib.Core.Path.{_≡_}
 use mathlib.Core.Bool.{true, cond, _&&_, _||_}
 use mathlib.Core.List.{[], _∷_}
-use Prim.Native.Nat.{ℕ, _+_, _^_, _≤_, _<_}
+use Prim.Native.Nat.{ℕ, _≤_}
 use native.Mathlib.Omega.{arith}
 use lib.Dec.{eqb}
-use lib.IntN.{ℤ, pos, negsuc, negℤ, _-ℤ_}
-use mir.Syntax.{w64}
-use mir.Val.{SFits}
-use lib.Signed.{leZ, mag, _≤ℤ_, ≤ℤ-refl}
+use lib.IntN.{ℤ, pos, negℤ, _-ℤ_}
+use lib.Signed.{leZ, _≤ℤ_, ≤ℤ-refl}
 use Rattle.common.specs.Lists.{every}
-use Rattle.signed.specs.Sign.{above, below}
+use Rattle.signed.specs.Sign.{above}
 use Rattle.signed.proofs.Orders.{leZ-true, within-true}
 use Rattle.signed.proofs.Whole.{whole, less, same, ≤-read, one-sided}
 use Rattle.common.proofs.Tests.{both-true, by-test}
@@ -71,13 +69,6 @@ exact {z} r = same (pos (above z)) z (omega (arith, whole, ≤-read (r .0), one-
 
 most : {z : ℤ} → Room z → above z ≤ 4000000
 most {z} r = omega (arith, whole, ≤-read (r .0), ≤-read (r .1), one-sided z)
-
-pub room-fits : {z : ℤ} → Room z → SFits w64 z
-room-fits {z} r = record { sfits = at z (most r) (≤-read (r .0)) }
-  where
-    at : (z : ℤ) → above z ≤ 4000000 → above (pos 0) + below z ≤ above z + below (pos 0) → mag z < 2 ^ 63
-    at (pos n) h k = omega arith
-    at (negsuc n) h k = absurd (omega arith)
 
 module _ (l : Limits) (rule : limitsRule l ≡ true) where
   -- from one level up to another, both in MIL..MEL

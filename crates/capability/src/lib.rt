@@ -3,9 +3,11 @@ ghost use mathlib.Core.Path.{_≡_};
 ghost use mathlib.Core.Bool.{true};
 ghost use mathlib.Core.List.{[], _∷_};
 ghost use Prim.Native.Nat.{_+_, _/_, _^_, _≤_, _<_};
+ghost use lib.IntN.{_-ℤ_};
 ghost use lib.Signed.{leZ};
 ghost use Rattle.common.specs.Fraction.{roundedDown};
 ghost use Rattle.common.specs.Lists.{every};
+ghost use Rattle.signed.specs.Sign.{above};
 ghost use Rattle.capability.specs.Capability.{inRange, limitsRule, wholeRange, headroom, footroom, directionRule, roomOf};
 ghost use Rattle.capability.specs.Capability.{pointInRange, rises, pointsRule, Segment, line, capabilityOf};
 ghost use Rattle.capability.specs.Capability.{answerOf, roomAnswer, capabilityAnswer, quantityAnswer};
@@ -81,28 +83,35 @@ fn at_or_below_sil(l: Limits) -> bool
     l.ol <= l.sil
 }
 
-fn headroom(l: Limits) -> i64
-    requires { ⌜ limitsRule l ≡ true ⌝ }
-    ensures { λ r. ⌜ r ≡ headroom l ⌝ }
+// By how much a is above b; 0 if it is not. With the parts below 0 added to both, no sign is left.
+fn excess(a: i64, b: i64) -> u64
+    ensures { λ r. ⌜ r ≡ above (a -ℤ b) ⌝ }
+{
+    let from = signed::above_zero(b) + signed::below_zero(a);
+    let to = signed::above_zero(a) + signed::below_zero(b);
+    to - common::smaller(from, to)
+}
+
+fn headroom(l: Limits) -> u64
+    ensures { λ r. ⌜ r ≡ above (headroom l) ⌝ }
 {
     if whole_range(l) | at_or_above_sel(l) {
-        return l.mel - l.ol;
+        return excess(l.mel, l.ol);
     }
     if at_or_below_sil(l) {
-        return l.sil - l.ol;
+        return excess(l.sil, l.ol);
     }
     0
 }
 
-fn footroom(l: Limits) -> i64
-    requires { ⌜ limitsRule l ≡ true ⌝ }
-    ensures { λ r. ⌜ r ≡ footroom l ⌝ }
+fn footroom(l: Limits) -> u64
+    ensures { λ r. ⌜ r ≡ above (footroom l) ⌝ }
 {
     if whole_range(l) | at_or_below_sil(l) {
-        return l.ol - l.mil;
+        return excess(l.ol, l.mil);
     }
     if at_or_above_sel(l) {
-        return l.ol - l.sel;
+        return excess(l.ol, l.sel);
     }
     0
 }
@@ -115,13 +124,12 @@ fn direction_holds(direction: u32) -> bool
 
 // Headroom in direction 1, footroom in direction 2.
 fn room_of(direction: u32, l: Limits) -> u64
-    requires { ⌜ limitsRule l ≡ true ⌝ }
     ensures { λ r. ⌜ r ≡ roomOf direction l ⌝ }
 {
     if direction == 1 {
-        return signed::above_zero(headroom(l));
+        return headroom(l);
     }
-    signed::above_zero(footroom(l))
+    footroom(l)
 }
 
 fn point_in_range(p: Point) -> bool

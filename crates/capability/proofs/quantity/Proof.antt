@@ -37,7 +37,7 @@ rules e =
     (sym (l .limits-hold .ensures) ∙ limits .1, sym (p .points-hold .ensures) ∙ points .1)
 
 room-of-requires : tie.Need-room-of-requires
-room-of-requires c κs = rules c .0
+room-of-requires c κs = search needs
 
 cast-room : tie.Need-cast-room
 cast-room c = let e = c .before in omega (arith, room-most _ (rules e .0) (e .before .before .before .before .args .direction))

@@ -1,8 +1,5 @@
 -- `capability::room` meets its contract. Assumes nothing.
-use mathlib.Core.Path.{sym, _∙_}
 use borrow.Author.Needs.{needs}
-use borrow.Author.Tests.{not-false}
-use Rattle.common.proofs.Tests.{both-true}
 use Rattle.capability.specs.Capability.{roomAnswer}
 use Rattle.capability.proofs.room.Statement.{statement}
 use Rattle.capability.proofs.room.Tie as tie
@@ -18,9 +15,7 @@ unfolding roomAnswer
 returns c = rw (← c .before .before .direction-holds .ensures, ← c .before .limits-hold .ensures, c .if1 .taken)
 
 room-of-requires : tie.Need-room-of-requires
-room-of-requires c κs =
-    let t = c .before in
-    sym (t .limits-hold .ensures) ∙ both-true (t .before .direction-holds .result) _ (not-false _ (c .if1 .left)) .1
+room-of-requires c κs = search needs
 
 returns-2 : tie.Need-returns-2
 unfolding roomAnswer
