@@ -78,7 +78,7 @@ listRule (p ∷ ps) = eqb (p .room) 0 && chain pointInRange rises p ps
 unfoldable pub pointsRule : Points → Bool
 pointsRule ps = leb 2 (ps .count) && leb (ps .count) 5 && listRule (pointsOf ps)
 
--- two points that follow each other, where the rule is kept
+-- what the rule says of two points that follow each other
 pub record Segment (p q : Point) : Type 0 where
   pub farther : p .room < q .room
   pub no-less : p .capability ≤ q .capability

@@ -40,7 +40,7 @@ endOf start back e = start +ℤ pos back -ℤ pos e
 abbrev pub flagOf : ℤ → ℤ → Bool
 flagOf start end = leZ start (pos 0) || leZ end (pos 0)
 
--- a period's row, from its bound and what the periods before it leave
+-- a period's row, from its bound, what is left and what comes back, and its start
 abbrev pub rowFrom : ℕ → ℕ → ℕ → ℕ → ℤ → Row
 rowFrom ER e left back start =
     record {
@@ -52,7 +52,7 @@ rowFrom ER e left back start =
       flag = flagOf start (endOf start back e);
     }
 
--- sizes of what a row is made from, where start is REV less the shortfall
+-- what `row_of` asks, where start is REV less the shortfall: its sums fit, and no more comes back than is short
 pub record RowFits (REV left back shortfall : ℕ) : Type 0 where
   pub rev-most : REV ≤ 2 ^ 44
   pub left-most : left ≤ 2 ^ 35

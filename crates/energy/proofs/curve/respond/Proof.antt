@@ -65,7 +65,7 @@ response-between-requires c κs =
       deviation-most = q .deviation-le;
       share-most = q .share-le;
       past = l .past;
-      short = c .if3 .taken;
+      before-next = c .if3 .taken;
     }
 
 returns-3 : tie.Need-returns-3 Inv-loop μ-loop
