@@ -1,7 +1,7 @@
 -- The segment of a room, and the loop of `capability_of` that looks for it. Assumes nothing.
 use mathlib.Core.Path.{_≡_, _∙_}
 use mathlib.Core.Bool.{true, _&&_}
-use mathlib.Core.List.{List, [], _∷_}
+use mathlib.Core.List.{List, _∷_}
 use Prim.Native.Nat.{ℕ, _+_, _≤_, _<_}
 use native.Mathlib.Omega.{arith}
 use borrow.Author.Tests.{le-leb, lt-leb, leb-true, ltb-true, eqb-true}
@@ -10,31 +10,22 @@ use lib.ListN.{length, take}
 use Rattle.common.specs.Lists.{chain}
 use Rattle.common.proofs.Chains.{rest, next, none-left, link, onward, first-holds}
 use Rattle.common.proofs.Tests.{both-true}
-use Rattle.capability.specs.Capability.{pointsOf, pointInRange, rises, listRule, pointsRule, line, capabilityFrom, capabilityAt}
+use Rattle.capability.specs.Capability.{pointsOf, pointInRange, rises, listRule, pointsRule, Segment, line, capabilityFrom, capabilityAt}
 use Rattle.capability.specs.declared.Point.{Point}
 use Rattle.capability.specs.declared.Points.{Points}
 use Rattle.capability.proofs.Rising.{blank, at, count-range}
 
--- ---- what the rule says of two points that follow each other, before the points ps
+-- ---- what the rule says of two points that follow each other
 
-pub record Segment (p q : Point) (ps : List Point) : Type 0 where
-  pub farther : p .room < q .room
-  pub no-less : p .capability ≤ q .capability
-  pub room-most : q .room ≤ 4000000
-  pub capability-most : q .capability ≤ 4000000
-  pub onward : chain pointInRange rises q ps ≡ true
-
-segment : (p q : Point) (ps : List Point) → chain pointInRange rises p (q ∷ ps) ≡ true → Segment p q ps
+segment : (p q : Point) (ps : List Point) → chain pointInRange rises p (q ∷ ps) ≡ true → Segment p q
 segment p q ps e =
-    let rest-rises = onward pointInRange rises p q ps e in
     let higher = both-true (ltb (p .room) (q .room)) (leb (p .capability) (q .capability)) (link pointInRange rises p q ps e) in
-    let range = both-true (leb (q .room) 4000000) (leb (q .capability) 4000000) (first-holds pointInRange rises q ps rest-rises) in
+    let range = both-true (leb (q .room) 4000000) (leb (q .capability) 4000000) (first-holds pointInRange rises q ps (onward pointInRange rises p q ps e)) in
     record {
       farther = ltb-true _ _ (higher .0);
       no-less = leb-true _ _ (higher .1);
       room-most = leb-true _ _ (range .0);
       capability-most = leb-true _ _ (range .1);
-      onward = rest-rises;
     }
 
 -- ---- the loop: the room is past the point p, and the points from q on decide
@@ -44,7 +35,8 @@ module _ (count : ℕ) (points : List Point) (room : ℕ) where
     pub within : i ≤ count
     pub most : count ≤ 5
     pub long : length points ≡ 5
-    pub segments : Segment p q (rest count points i)
+    pub segment : Segment p q
+    pub rising : chain pointInRange rises q (rest count points i) ≡ true
     pub past : p .room ≤ room
     pub same : capabilityAt (take count points) room ≡ capabilityFrom p q (rest count points i) room
 
@@ -68,7 +60,8 @@ module _ (count : ℕ) (points : List Point) (room : ℕ) where
             within = omega arith;
             most = r .most;
             long = r .long;
-            segments = segment q (at points i) (rest count points (i + 1)) (rw there at (r .segments .onward));
+            segment = segment q (at points i) (rest count points (i + 1)) (rw there at (r .rising));
+            rising = onward pointInRange rises q (at points i) (rest count points (i + 1)) (rw there at (r .rising));
             past = omega arith;
             same = r .same ∙ (rw (there, lt-leb room (q .room) b));
           }
@@ -87,7 +80,8 @@ begin ps room rule long =
       within = b .0;
       most = b .1;
       long = long;
-      segments = segment (at points 0) (at points 1) (rest n points 2) (tests .1);
+      segment = segment (at points 0) (at points 1) (rest n points 2) (tests .1);
+      rising = onward pointInRange rises (at points 0) (at points 1) (rest n points 2) (tests .1);
       past = omega (arith, eqb-true (at points 0 .room) 0 (tests .0));
       same = rw (first, second);
     }

@@ -1,7 +1,7 @@
 -- Paper 01, "Capability": rooms, points and the contracted quantity, in kW. Assumes nothing.
 use mathlib.Core.Bool.{Bool, false, not, cond, _&&_, _||_}
 use mathlib.Core.List.{List, [], _∷_}
-use Prim.Native.Nat.{ℕ, min}
+use Prim.Native.Nat.{ℕ, _≤_, _<_, min}
 use lib.Dec.{leb, ltb, eqb}
 use lib.IntN.{ℤ, pos, negℤ, _-ℤ_}
 use lib.ListN.{take}
@@ -77,6 +77,13 @@ listRule (p ∷ ps) = eqb (p .room) 0 && chain pointInRange rises p ps
 -- there are 2 to 5 points
 unfoldable pub pointsRule : Points → Bool
 pointsRule ps = leb 2 (ps .count) && leb (ps .count) 5 && listRule (pointsOf ps)
+
+-- what the rule says of two points that follow each other
+pub record Segment (p q : Point) : Type 0 where
+  pub farther : p .room < q .room
+  pub no-less : p .capability ≤ q .capability
+  pub room-most : q .room ≤ 4000000
+  pub capability-most : q .capability ≤ 4000000
 
 abbrev pub line : Point → Point → ℕ → Fraction
 line p q room = onLine (p .room) (p .capability) (q .room) (q .capability) room

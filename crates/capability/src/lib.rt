@@ -1,15 +1,15 @@
 // Headroom and footroom, response capability and contracted quantity of a unit, in kW.
 ghost use mathlib.Core.Path.{_≡_};
-ghost use mathlib.Core.Bool.{true, cond};
+ghost use mathlib.Core.Bool.{true};
 ghost use mathlib.Core.List.{[], _∷_};
 ghost use Prim.Native.Nat.{_+_, _/_, _^_, _≤_, _<_};
-ghost use lib.IntN.{pos, _-ℤ_};
+ghost use lib.IntN.{_-ℤ_};
 ghost use lib.Signed.{leZ};
 ghost use Rattle.common.specs.Fraction.{roundedDown};
 ghost use Rattle.common.specs.Lists.{every};
-ghost use Rattle.signed.specs.Sign.{above, below, eqZ};
-ghost use Rattle.capability.specs.Capability.{inRange, limitsRule, wholeRange, directionRule, roomOf};
-ghost use Rattle.capability.specs.Capability.{pointInRange, rises, pointsRule, line, capabilityOf};
+ghost use Rattle.signed.specs.Sign.{above};
+ghost use Rattle.capability.specs.Capability.{inRange, limitsRule, wholeRange, headroom, footroom, directionRule, roomOf};
+ghost use Rattle.capability.specs.Capability.{pointInRange, rises, pointsRule, Segment, line, capabilityOf};
 ghost use Rattle.capability.specs.Capability.{answerOf, roomAnswer, capabilityAnswer, quantityAnswer};
 
 // Maximum and stable import limits, stable and maximum export limits, operating level.
@@ -42,36 +42,7 @@ pub enum CapabilityAnswer {
 fn in_range(z: i64) -> bool
     ensures { λ r. ⌜ r ≡ inRange z ⌝ }
 {
-    (signed::below_zero(z) <= 2_000_000) & (signed::above_zero(z) <= 2_000_000)
-}
-
-fn is_zero(z: i64) -> bool
-    ensures { λ r. ⌜ r ≡ eqZ z (pos 0) ⌝ }
-{
-    (signed::below_zero(z) == 0) & (signed::above_zero(z) == 0)
-}
-
-// a raised by the parts of a and b below 0. With b raised alike, order and difference are kept and no sign is left.
-fn raised(a: i64, b: i64) -> u64
-    ensures { λ r. ⌜ r ≡ above a + below b ⌝ }
-{
-    signed::above_zero(a) + signed::below_zero(b)
-}
-
-// a ≤ b
-fn at_most(a: i64, b: i64) -> bool
-    ensures { λ r. ⌜ r ≡ leZ a b ⌝ }
-{
-    raised(a, b) <= raised(b, a)
-}
-
-// By how much a is above b; 0 if it is not.
-fn excess(a: i64, b: i64) -> u64
-    ensures { λ r. ⌜ r ≡ above (a -ℤ b) ⌝ }
-{
-    let from = raised(b, a);
-    let to = raised(a, b);
-    to - common::smaller(from, to)
+    (-2_000_000 <= z) & (z <= 2_000_000)
 }
 
 fn each_in_range(l: Limits) -> bool
@@ -84,31 +55,65 @@ fn limits_hold(l: Limits) -> bool
     ensures { λ r. ⌜ r ≡ limitsRule l ⌝ }
 {
     each_in_range(l)
-        & at_most(l.mil, l.sil)
-        & at_most(l.sil, 0)
-        & at_most(0, l.sel)
-        & at_most(l.sel, l.mel)
-        & (at_most(l.mil, l.ol) & at_most(l.ol, l.mel))
+        & (l.mil <= l.sil)
+        & (l.sil <= 0)
+        & (0 <= l.sel)
+        & (l.sel <= l.mel)
+        & ((l.mil <= l.ol) & (l.ol <= l.mel))
 }
 
+// SEL = SIL = 0
 fn whole_range(l: Limits) -> bool
     ensures { λ r. ⌜ r ≡ wholeRange l ⌝ }
 {
-    is_zero(l.sel) & is_zero(l.sil)
+    (l.sel == 0) & (l.sil == 0)
 }
 
 // OL ≥ SEL
 fn at_or_above_sel(l: Limits) -> bool
     ensures { λ r. ⌜ r ≡ leZ (l .sel) (l .ol) ⌝ }
 {
-    at_most(l.sel, l.ol)
+    l.sel <= l.ol
 }
 
 // OL ≤ SIL
 fn at_or_below_sil(l: Limits) -> bool
     ensures { λ r. ⌜ r ≡ leZ (l .ol) (l .sil) ⌝ }
 {
-    at_most(l.ol, l.sil)
+    l.ol <= l.sil
+}
+
+// By how much a is above b; 0 if it is not. With the parts below 0 added to both, no sign is left.
+fn excess(a: i64, b: i64) -> u64
+    ensures { λ r. ⌜ r ≡ above (a -ℤ b) ⌝ }
+{
+    let from = signed::above_zero(b) + signed::below_zero(a);
+    let to = signed::above_zero(a) + signed::below_zero(b);
+    to - common::smaller(from, to)
+}
+
+fn headroom(l: Limits) -> u64
+    ensures { λ r. ⌜ r ≡ above (headroom l) ⌝ }
+{
+    if whole_range(l) | at_or_above_sel(l) {
+        return excess(l.mel, l.ol);
+    }
+    if at_or_below_sil(l) {
+        return excess(l.sil, l.ol);
+    }
+    0
+}
+
+fn footroom(l: Limits) -> u64
+    ensures { λ r. ⌜ r ≡ above (footroom l) ⌝ }
+{
+    if whole_range(l) | at_or_below_sil(l) {
+        return excess(l.ol, l.mil);
+    }
+    if at_or_above_sel(l) {
+        return excess(l.ol, l.sel);
+    }
+    0
 }
 
 fn direction_holds(direction: u32) -> bool
@@ -117,40 +122,14 @@ fn direction_holds(direction: u32) -> bool
     (direction == 1) | (direction == 2)
 }
 
-// a if the first test holds, else b if the second does, else 0.
-fn first_room(first: bool, a: u64, second: bool, b: u64) -> u64
-    ensures { λ r. ⌜ r ≡ cond first a (cond second b 0) ⌝ }
-{
-    if first {
-        return a;
-    }
-    if second {
-        return b;
-    }
-    0
-}
-
 // Headroom in direction 1, footroom in direction 2.
 fn room_of(direction: u32, l: Limits) -> u64
     ensures { λ r. ⌜ r ≡ roomOf direction l ⌝ }
 {
-    let whole = whole_range(l);
-    let exporting = at_or_above_sel(l);
-    let importing = at_or_below_sil(l);
     if direction == 1 {
-        return first_room(
-            whole | exporting,
-            excess(l.mel, l.ol),
-            importing,
-            excess(l.sil, l.ol),
-        );
+        return headroom(l);
     }
-    first_room(
-        whole | importing,
-        excess(l.ol, l.mil),
-        exporting,
-        excess(l.ol, l.sel),
-    )
+    footroom(l)
 }
 
 fn point_in_range(p: Point) -> bool
@@ -159,7 +138,7 @@ fn point_in_range(p: Point) -> bool
     (p.room <= 4_000_000) & (p.capability <= 4_000_000)
 }
 
-fn rises_to(p: Point, q: Point) -> bool
+fn rises(p: Point, q: Point) -> bool
     ensures { λ r. ⌜ r ≡ rises p q ⌝ }
 {
     (p.room < q.room) & (p.capability <= q.capability)
@@ -180,7 +159,7 @@ fn points_hold(ps: Points) -> bool
     let mut i: usize = 1;
     while i < count {
         let next = points[i];
-        if !(point_in_range(last) & rises_to(last, next)) {
+        if !(point_in_range(last) & rises(last, next)) {
             return false;
         }
         last = next;
@@ -190,7 +169,7 @@ fn points_hold(ps: Points) -> bool
 }
 
 fn rounded_down(numerator: u64, denominator: u64) -> u64
-    requires { ⌜ (numerator < 2 ^ 63) × (0 < denominator) × (denominator < 2 ^ 63) ⌝ }
+    requires { ⌜ (0 < denominator) × (numerator + denominator < 2 ^ 64) ⌝ }
     ensures { λ r. ⌜ r ≡ numerator / denominator ⌝ }
 {
     numerator / denominator
@@ -198,7 +177,7 @@ fn rounded_down(numerator: u64, denominator: u64) -> u64
 
 // The line through two points, rounded down.
 fn on_line(p: Point, q: Point, room: u32) -> u64
-    requires { ⌜ (p .room < q .room) × (q .room ≤ 4000000) × (p .capability ≤ q .capability) × (q .capability ≤ 4000000) × (p .room ≤ room) ⌝ }
+    requires { ⌜ Segment p q × (p .room ≤ room) ⌝ }
     ensures { λ r. ⌜ r ≡ roundedDown (line p q room) ⌝ }
 {
     let width = (q.room - p.room) as u64;

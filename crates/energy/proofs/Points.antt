@@ -1,7 +1,7 @@
 -- The points of a curve: what its rule says of each, and the loops that pass them one by one. Assumes nothing.
 use mathlib.Core.Path.{_≡_, subst, _∙_}
 use mathlib.Core.Bool.{true, false, _&&_}
-use mathlib.Core.List.{List, [], _∷_}
+use mathlib.Core.List.{List, _∷_}
 use Prim.Native.Nat.{ℕ, _+_, _*_, _≤_, _<_}
 use native.Mathlib.Nat.{mul-zero, zero-mul}
 use native.Mathlib.Omega.{arith}
@@ -64,7 +64,12 @@ module _ (c : Curve) where
   unfolding curveRule
   ruled e = both-true (leb 2 (c .count) && leb (c .count) 5) (pointsRule (pointsOf c)) e .1
 
-  -- ---- the loop of `curve_holds`
+  -- ---- the loop of `curve_holds`: what the points from the i-th on decide, after the last one passed
+
+  pub record Passed (last : Point) (i : ℕ) : Type 0 where
+    pub within : i ≤ c .count
+    pub most : c .count ≤ 5
+    pub same : curveRule c ≡ chain inRange rises last (rest i)
 
   pub too-few : c .count < 2 → curveRule c ≡ false
   unfolding curveRule
@@ -79,9 +84,14 @@ module _ (c : Curve) where
     unfolding curveRule
     first-above h = rw (le-leb 2 (c .count) few, le-leb (c .count) 5 many, first few long, ne-eqb (at 0 .share) 0 h)
 
-    pub begin : at 0 .share ≡ 0 → curveRule c ≡ chain inRange rises (at 0) (rest 1)
+    pub begin : at 0 .share ≡ 0 → Passed (at 0) 1
     unfolding curveRule
-    begin h = rw (le-leb 2 (c .count) few, le-leb (c .count) 5 many, first few long, eq-eqb (at 0 .share) 0 h)
+    begin h =
+        record {
+          within = omega arith;
+          most = many;
+          same = rw (le-leb 2 (c .count) few, le-leb (c .count) 5 many, first few long, eq-eqb (at 0 .share) 0 h);
+        }
 
   -- ---- the loop of `respond`: the deviation is past the point `last`, and the points from the i-th on decide
 

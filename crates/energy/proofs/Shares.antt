@@ -12,7 +12,7 @@ use lib.ListN.{length, getD}
 use Rattle.common.specs.Fraction.{Fraction, whole}
 use Rattle.common.specs.Lists.{chain}
 use Rattle.common.proofs.Tests.{both-true, by-test}
-use Rattle.energy.specs.Curve.{blank, between, shareFrom, shareAt, responseTo, response, inRange, rises, pointsRule, pointsOf, curveRule}
+use Rattle.energy.specs.Curve.{blank, between, shareFrom, shareAt, responseTo, InSegment, response, inRange, rises, pointsRule, pointsOf, curveRule}
 use Rattle.energy.specs.declared.curve.Point.{Point}
 use Rattle.energy.specs.declared.curve.Curve.{Curve}
 use Rattle.energy.proofs.Points.{InRange, Rises, range, rises-next, rule-next, ruled}
@@ -26,12 +26,12 @@ line-le s t w x st t1 xw =
 
 -- ---- what `response_between` computes is far below 2^32
 
-module _ (mw s t a b d : ℕ) (h : (mw ≤ 1000) × (b ≤ 3000) × (s ≤ t) × (t ≤ 1000) × (a ≤ d) × (d < b)) where
-  pub numerator-le : s * (b - a) + (t - s) * (d - a) ≤ 3000000
-  numerator-le = omega (arith, line-le s t (b - a) (d - a) (h .2) (h .3) (omega arith))
+module _ {mw : ℕ} {p q : Point} {d : ℕ} (h : InSegment mw p q d) where
+  pub numerator-le : between p q d .numerator ≤ 3000000
+  numerator-le = omega (arith, line-le (p .share) (q .share) (q .deviation - p .deviation) (d - p .deviation) (h .no-less) (h .share-most) (omega arith))
 
-  pub product-le : mw * (s * (b - a) + (t - s) * (d - a)) ≤ 3000000000
-  product-le = mul-le-mul (h .0) numerator-le
+  pub product-le : mw * between p q d .numerator ≤ 3000000000
+  product-le = mul-le-mul (h .mw-most) numerator-le
 
 -- ---- the share as a fraction
 

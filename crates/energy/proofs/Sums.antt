@@ -1,19 +1,17 @@
 -- The loop of `sum_readings`: after i readings, the sums of both directions so far. Assumes nothing.
 use mathlib.Core.Path.{_≡_, refl, ap, _∙_}
-use mathlib.Core.Bool.{true, false, not}
-use mathlib.Core.List.{List, [], _∷_, map}
+use mathlib.Core.Bool.{true, false}
+use mathlib.Core.List.{List, map}
 use Prim.Native.Nat.{ℕ, _+_, _*_, _≤_, _<_}
 use native.Mathlib.Omega.{arith}
 use borrow.Author.Tests.{eq-eqb, ne-eqb}
 use lib.ListN.{length, drop, getD, drop-of-length-le}
-use Rattle.common.specs.Answer.{Answer, refused, given, cause, checked}
+use Rattle.common.specs.Answer.{refused, given}
 use Rattle.common.specs.Lists.{sum, every}
 use Rattle.common.proofs.Lists.{drop-next}
 use Rattle.terms.specs.declared.Quantities.{Quantities}
-use Rattle.terms.specs.Terms.{Q}
 use Rattle.common.specs.Fraction.{roundedUp}
-use Rattle.energy.specs.Curve.{curvesRule}
-use Rattle.energy.specs.Period.{Bounds, responses, isReading, goodReadings, lowDeviation, highDeviation, bound, lowBound, highBound}
+use Rattle.energy.specs.Period.{responses, isReading, goodReadings, lowDeviation, highDeviation, bound, BeforeReadings, fromReadings}
 use Rattle.energy.specs.declared.curve.Curves.{Curves}
 use Rattle.energy.proofs.Responses.{responses-le}
 
@@ -50,11 +48,7 @@ module _ (rs : List ℕ) where
       pub lows : Summed (λ (r : ℕ). responses low cs (lowDeviation r)) i low-sum
       pub highs : Summed (λ (r : ℕ). responses high cs (highDeviation r)) i high-sum
 
-    -- refusal 6, or both bounds
-    abbrev pub fromReadings : Answer Bounds
-    fromReadings = checked (cause 6 (not (goodReadings rs)) ∷ []) (record { low = lowBound low cs rs; high = highBound high cs rs })
-
-    pub declines : goodReadings rs ≡ false → refused 6 ≡ fromReadings
+    pub declines : goodReadings rs ≡ false → refused 6 ≡ fromReadings low high cs rs
     declines h = rw h
 
     pub begin : length rs ≡ 3600 → Read 0 0 0
@@ -72,20 +66,20 @@ module _ (rs : List ℕ) where
       unfolding goodReadings every
       bad-reading h bad = rw (eq-eqb (length rs) 3600 (r .long)) (r .good ∙ (rw (drop-next rs i 0 (omega arith), bad)))
 
-      pub step : curvesRule cs ≡ true → Q low ≤ 1000 → Q high ≤ 1000 → i < 3600 → isReading (getD rs i 0) ≡ true →
+      pub step : BeforeReadings low high cs → i < 3600 → isReading (getD rs i 0) ≡ true →
           let r = getD rs i 0 in
           Read (i + 1) (low-sum + responses low cs (lowDeviation r)) (high-sum + responses high cs (highDeviation r))
       unfolding every
-      step rule l1 h1 h good =
+      step b h good =
           record {
             long = r .long;
             within = omega arith;
             good = r .good ∙ (rw (drop-next rs i 0 (omega arith), good));
-            lows = one-more _ (r .lows) (omega arith) (omega (arith, responses-le low cs rule (lowDeviation (getD rs i 0))));
-            highs = one-more _ (r .highs) (omega arith) (omega (arith, responses-le high cs rule (highDeviation (getD rs i 0))));
+            lows = one-more _ (r .lows) (omega arith) (omega (arith, responses-le low cs (b .curves) (lowDeviation (getD rs i 0))));
+            highs = one-more _ (r .highs) (omega arith) (omega (arith, responses-le high cs (b .curves) (highDeviation (getD rs i 0))));
           }
 
-      pub done : 3600 ≤ i → given (record { low = roundedUp low-sum 7200; high = roundedUp high-sum 7200 }) ≡ fromReadings
+      pub done : 3600 ≤ i → given (record { low = roundedUp low-sum 7200; high = roundedUp high-sum 7200 }) ≡ fromReadings low high cs rs
       unfolding goodReadings every bound
       done h =
           let e : every isReading rs ≡ true = r .good ∙ (rw (drop-of-length-le rs {i = i} (omega arith))) in

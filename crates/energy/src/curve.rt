@@ -4,7 +4,7 @@ ghost use mathlib.Core.Bool.{true};
 ghost use Prim.Native.Nat.{_≤_, _<_};
 ghost use Rattle.energy.specs.Numbers.{pointsIn, curveIn};
 ghost use lib.ListN.{length, getD};
-ghost use Rattle.energy.specs.Curve.{blank, inRange, rises, curveRule, curvesRule, regulationCurve, containmentCurve, between, responseTo, response};
+ghost use Rattle.energy.specs.Curve.{blank, inRange, rises, curveRule, curvesRule, regulationCurve, containmentCurve, between, responseTo, InSegment, response};
 
 pub struct Point {
     pub deviation: u16,
@@ -95,7 +95,7 @@ fn in_range(p: Point) -> bool
     (p.deviation <= 3000) & (p.share <= 1000)
 }
 
-fn does_rise(p: Point, q: Point) -> bool
+fn rises(p: Point, q: Point) -> bool
     ensures { λ r. ⌜ r ≡ rises p q ⌝ }
 {
     (p.deviation < q.deviation) & (p.share <= q.share)
@@ -116,7 +116,7 @@ pub fn curve_holds(curve: Curve) -> bool
     let mut i: usize = 1;
     while i < count {
         let next = curve.points[i];
-        if !(in_range(last) & does_rise(last, next)) {
+        if !(in_range(last) & rises(last, next)) {
             return false;
         }
         last = next;
@@ -133,7 +133,7 @@ pub fn curves_hold(curves: Curves) -> bool
 
 // The response between two points of a curve.
 fn response_between(mw: u32, p: Point, q: Point, deviation: u32) -> u32
-    requires { ⌜ (mw ≤ 1000) × (q .deviation ≤ 3000) × (p .share ≤ q .share) × (q .share ≤ 1000) × (p .deviation ≤ deviation) × (deviation < q .deviation) ⌝ }
+    requires { ⌜ InSegment mw p q deviation ⌝ }
     ensures { λ r. ⌜ r ≡ responseTo mw (between p q deviation) ⌝ }
 {
     let width = (q.deviation - p.deviation) as u32;

@@ -1,14 +1,14 @@
 // Period energy: the bounds of both directions, from a period's readings.
 ghost use mathlib.Core.Path.{_≡_};
-ghost use mathlib.Core.Bool.{true, not};
-ghost use mathlib.Core.List.{[], _∷_};
+ghost use mathlib.Core.Bool.{true};
 ghost use Prim.Native.Nat.{_≤_};
-ghost use Rattle.common.specs.Answer.{numberOf, cause, checked};
+ghost use Rattle.common.specs.Answer.{numberOf};
 ghost use Rattle.terms.specs.Terms.{Q};
 ghost use Rattle.common.specs.Fraction.{roundedUp};
 ghost use Rattle.energy.specs.Curve.{curvesRule};
 ghost use Rattle.energy.specs.Numbers.{curvesIn};
-ghost use Rattle.energy.specs.Period.{responses, isReading, goodReadings, lowDeviation, highDeviation, lowBound, highBound, answerOf, periodEnergy};
+ghost use Rattle.energy.specs.Period.{isReading, lowDeviation, highDeviation, responses};
+ghost use Rattle.energy.specs.Period.{BeforeReadings, fromReadings, periodEnergy, answerOf};
 use crate::curve::Curves;
 use crate::curve::curves_hold;
 use crate::curve::numbers;
@@ -87,8 +87,8 @@ fn sum_readings(
     dr: &[u16],
     readings: &[u16],
 ) -> PeriodEnergy
-    requires { ⌜ (Q low ≤ 1000) × (Q high ≤ 1000) × (curvesRule (curvesIn (now dc) (now dm) (now dr)) ≡ true) ⌝ }
-    ensures { λ r. ⌜ answerOf r ≡ checked (cause 6 (not (goodReadings (now (readings .entry)))) ∷ []) (record { low = lowBound low (curvesIn (now (dc .entry)) (now (dm .entry)) (now (dr .entry))) (now (readings .entry)); high = highBound high (curvesIn (now (dc .entry)) (now (dm .entry)) (now (dr .entry))) (now (readings .entry)) }) ⌝ }
+    requires { ⌜ BeforeReadings low high (curvesIn (now dc) (now dm) (now dr)) ⌝ }
+    ensures { λ r. ⌜ answerOf r ≡ fromReadings low high (curvesIn (now (dc .entry)) (now (dm .entry)) (now (dr .entry))) (now (readings .entry)) ⌝ }
 {
     if readings.len() != 3600 {
         return PeriodEnergy::Readings;
@@ -118,8 +118,8 @@ fn from_readings(
     curves: Curves,
     readings: &[u16],
 ) -> PeriodEnergy
-    requires { ⌜ (Q low ≤ 1000) × (Q high ≤ 1000) × (curvesRule curves ≡ true) ⌝ }
-    ensures { λ r. ⌜ answerOf r ≡ checked (cause 6 (not (goodReadings (now (readings .entry)))) ∷ []) (record { low = lowBound low curves (now (readings .entry)); high = highBound high curves (now (readings .entry)) }) ⌝ }
+    requires { ⌜ BeforeReadings low high curves ⌝ }
+    ensures { λ r. ⌜ answerOf r ≡ fromReadings low high curves (now (readings .entry)) ⌝ }
 {
     let dc = numbers(curves.dc);
     let dm = numbers(curves.dm);

@@ -74,11 +74,11 @@ unfoldable pub monitoring : Quantities → List ℕ → List ℕ → Answer (Lis
 monitoring q bounds reported = checked (monitorCauses q bounds reported) (rowsOf (REV q) (ER q) bounds reported)
 
 -- the number, or what is given, of each case of the code's answer
-abbrev pub numbered : {A : Type 0} → MonitorAnswer → A → Answer A
-numbered Rows a = given a
-numbered Quantity a = refused 1
-numbered Bound a = refused 7
-numbered Reported a = refused 11
+abbrev pub answerWith : {A : Type 0} → MonitorAnswer → A → Answer A
+answerWith Rows a = given a
+answerWith Quantity a = refused 1
+answerWith Bound a = refused 7
+answerWith Reported a = refused 11
 
 abbrev pub answerOf : Monitored → Answer (List Row)
-answerOf m = numbered (m .answer) (m .rows)
+answerOf m = answerWith (m .answer) (m .rows)

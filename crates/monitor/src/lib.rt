@@ -3,7 +3,7 @@ ghost use mathlib.Core.Path.{_≡_};
 ghost use lib.Dec.{ltb};
 ghost use Rattle.common.specs.Answer.{numberOf, orBlank};
 ghost use Rattle.common.specs.Lists.{someEntry};
-ghost use Rattle.monitor.specs.Monitor.{judged, rowsOf, zeroRow, zeroRows, numbered, answerOf, monitoring};
+ghost use Rattle.monitor.specs.Monitor.{judged, rowsOf, zeroRow, zeroRows, answerWith, answerOf, monitoring};
 use terms::DirectionTerms;
 use terms::Quantities;
 
@@ -61,7 +61,7 @@ fn judge(period: u32, bound: u32, r: requirement::Row, reported: u32) -> Row
         back: r.back,
         left: r.left,
         flag: r.flag,
-        verdict: signed::above_zero(r.start) <= reported as u64,
+        verdict: r.start <= reported as i64,
     }
 }
 
@@ -129,7 +129,7 @@ pub fn monitor(q: Quantities, bounds: [u32; 8], reported: [u32; 8]) -> Monitored
 
 // The number of an answer, 0 for rows.
 pub fn number(answer: MonitorAnswer) -> u32
-    ensures { λ r. ⌜ r ≡ numberOf {A = Unit} (numbered answer tt) ⌝ }
+    ensures { λ r. ⌜ r ≡ numberOf {A = Unit} (answerWith answer tt) ⌝ }
 {
     match answer {
         MonitorAnswer::Rows => 0,

@@ -11,21 +11,9 @@ use lib.ListN.{getD, set, take, length, length-set, replicate, getD-replicate}
 use lib.Seq.{getD-set-same, getD-set-other}
 use Rattle.common.specs.Periods.{periodsTo, ofPeriod}
 use Rattle.common.proofs.Periods.{filled-next, filled-all}
-use Rattle.requirement.specs.Requirement.{schedOf, flagOf, left, sched, back, rowOf}
+use Rattle.requirement.specs.Requirement.{left, sched, back, end, rowFrom, rowOf}
 use Rattle.requirement.specs.declared.Row.{Row}
-use Rattle.requirement.proofs.Shortfall.{shortfall, left-next, back-none, back-later, back-le, sched-le, start-is, end-is}
-
--- the row that `row_of` makes
-abbrev made : ℕ → ℕ → ℕ → ℕ → ℕ → ℕ → Row
-made REV ER bound left back shortfall =
-    record {
-      left = left;
-      sched = schedOf ER bound left;
-      back = back;
-      start = pos REV -ℤ pos shortfall;
-      end = pos REV -ℤ pos (shortfall + bound - back);
-      flag = flagOf (pos REV -ℤ pos shortfall) (pos REV -ℤ pos (shortfall + bound - back));
-    }
+use Rattle.requirement.proofs.Shortfall.{shortfall, left-next, back-none, back-later, back-le, sched-le, start-is}
 
 module _ (REV ER : ℕ) (bounds : List ℕ) where
   abbrev e : ℕ → ℕ
@@ -34,9 +22,9 @@ module _ (REV ER : ℕ) (bounds : List ℕ) where
   abbrev rowsTo : ℕ → List Row
   rowsTo n = map (rowOf REV ER e) (periodsTo n)
 
-  made-is : (i : ℕ) → made REV ER (e (suc i)) (left ER e (suc i)) (back ER e (suc i)) (shortfall ER e (suc i)) ≡ rowOf REV ER e (suc i)
-  unfolding rowOf sched
-  made-is i = rw (start-is REV ER e (suc i), end-is REV ER e i)
+  made-is : (i : ℕ) → rowFrom ER (e i) (left ER e i) (back ER e i) (pos REV -ℤ pos (shortfall ER e i)) ≡ rowOf REV ER e i
+  unfolding rowOf sched end
+  made-is i = rw (start-is REV ER e i)
 
   pub record Filled (rows : List Row) (backs : List ℕ) (l s i : ℕ) : Type 0 where
     pub within : i ≤ 8
@@ -80,9 +68,9 @@ module _ (REV ER : ℕ) (bounds : List ℕ) where
     pub back-fits : getD backs i 0 ≤ s
     back-fits = omega (arith, back-is, back-le ER e (suc i))
 
-    module _ (row : Row) (p : row ≡ made REV ER (getD bounds i 0) l (getD backs i 0) s) where
+    module _ (row : Row) (p : row ≡ rowFrom ER (getD bounds i 0) l (getD backs i 0) (pos REV -ℤ pos s)) where
       row-is : row ≡ rowOf REV ER e (suc i)
-      row-is = p ∙ rw (← here, back-is, f .left-is, f .short-is) (made-is i)
+      row-is = p ∙ rw (← here, back-is, f .left-is, f .short-is) (made-is (suc i))
 
       sched-is : row .sched ≡ sched ER e (suc i)
       unfolding rowOf

@@ -1,13 +1,12 @@
 -- The bridge from the requirement in ℤ to natural numbers: a start is REV less the shortfall, which is what is left and what has
 -- yet to come back. Assumes nothing.
-use mathlib.Core.Path.{_≡_, refl, sym, ap, _∙_}
+use mathlib.Core.Path.{_≡_, refl, sym, ap}
 use Prim.Native.Nat.{ℕ, zero, suc, _+_, _-_, _≤_}
 use native.Mathlib.Omega.{arith}
 use borrow.Author.Tests.{le-leb, lt-leb}
 use lib.IntN.{pos, _+ℤ_, _-ℤ_}
-use Rattle.signed.specs.Sign.{above, below}
 use Rattle.signed.proofs.Whole.{sum, less, same}
-use Rattle.requirement.specs.Requirement.{left, sched, back, start, end}
+use Rattle.requirement.specs.Requirement.{left, sched, back, endOf, start, end}
 
 module _ (ER : ℕ) (e : ℕ → ℕ) where
   pub left-next : (i : ℕ) → left ER e (suc (suc i)) ≡ left ER e (suc i) + e (suc i) - sched ER e (suc i)
@@ -42,6 +41,13 @@ module _ (ER : ℕ) (e : ℕ → ℕ) where
   back-le zero = omega (arith, back-none 0 (omega arith))
   back-le (suc i) = omega (arith, owed i)
 
+-- the end of a period that starts at REV less s, where no more than s comes back
+pub end-less : (REV s b e : ℕ) → b ≤ s → endOf (pos REV -ℤ pos s) b e ≡ pos REV -ℤ pos (s + e - b)
+end-less REV s b e h =
+    let start = pos REV -ℤ pos s in
+    same (start +ℤ pos b -ℤ pos e) (pos REV -ℤ pos (s + e - b))
+    (omega (arith, less (pos REV) (pos s), sum start (pos b), less (start +ℤ pos b) (pos e), less (pos REV) (pos (s + e - b))))
+
 module _ (REV ER : ℕ) (e : ℕ → ℕ) where
   pub start-next : (i : ℕ) → start REV ER e (suc (suc i)) ≡ end REV ER e (suc i)
   unfolding start end
@@ -51,22 +57,4 @@ module _ (REV ER : ℕ) (e : ℕ → ℕ) where
   unfolding start shortfall
   start-is zero = sym (ap pos (omega arith))
   start-is (suc zero) = sym (ap pos (omega arith))
-  start-is (suc (suc i)) =
-      let s = start REV ER e (suc i) in
-      let b = back ER e (suc i) in
-      let k = shortfall ER e (suc i) in
-      same (s +ℤ pos b -ℤ pos (e (suc i))) (pos REV -ℤ pos (k + e (suc i) - b))
-      (omega (
-        arith,
-        ap above (start-is (suc i)),
-        ap below (start-is (suc i)),
-        back-le ER e (suc i),
-        sum s (pos b),
-        less (s +ℤ pos b) (pos (e (suc i))),
-        less (pos REV) (pos k),
-        less (pos REV) (pos (k + e (suc i) - b)),
-      ))
-
-  pub end-is : (i : ℕ) → end REV ER e (suc i) ≡ pos REV -ℤ pos (shortfall ER e (suc i) + e (suc i) - back ER e (suc i))
-  unfolding shortfall
-  end-is i = sym (start-next i) ∙ start-is (suc (suc i))
+  start-is (suc (suc i)) = rw (start-is (suc i)) (end-less REV (shortfall ER e (suc i)) (back ER e (suc i)) (e (suc i)) (back-le ER e (suc i)))

@@ -2,7 +2,7 @@
 -- There is no period 0: nothing reads what stands for it. Assumes nothing.
 use mathlib.Core.Bool.{Bool, cond, _||_}
 use mathlib.Core.List.{List, map}
-use Prim.Native.Nat.{ℕ, zero, suc, _+_, _-_, min}
+use Prim.Native.Nat.{ℕ, zero, suc, _+_, _-_, _^_, _≤_, min}
 use lib.Dec.{leb}
 use lib.IntN.{ℤ, pos, _+ℤ_, _-ℤ_}
 use lib.Signed.{leZ}
@@ -39,6 +39,25 @@ endOf start back e = start +ℤ pos back -ℤ pos e
 -- unavailability is allowed exactly when start ≤ 0 or end ≤ 0
 abbrev pub flagOf : ℤ → ℤ → Bool
 flagOf start end = leZ start (pos 0) || leZ end (pos 0)
+
+-- a period's row, from its bound, what is left and what comes back, and its start
+abbrev pub rowFrom : ℕ → ℕ → ℕ → ℕ → ℤ → Row
+rowFrom ER e left back start =
+    record {
+      left = left;
+      sched = schedOf ER e left;
+      back = back;
+      start = start;
+      end = endOf start back e;
+      flag = flagOf start (endOf start back e);
+    }
+
+-- what `row_of` asks, where start is REV less the shortfall: its sums fit, and no more comes back than is short
+pub record RowFits (REV left back shortfall : ℕ) : Type 0 where
+  pub rev-most : REV ≤ 2 ^ 44
+  pub left-most : left ≤ 2 ^ 35
+  pub short-most : shortfall ≤ 2 ^ 35
+  pub back-most : back ≤ shortfall
 
 module _ (REV ER : ℕ) (e : ℕ → ℕ) where
   -- start(1) = REV; start(i+1) = end(i)

@@ -1,9 +1,9 @@
 // The requirement of one direction over the eight periods of a block.
 ghost use mathlib.Core.Path.{_≡_};
-ghost use Prim.Native.Nat.{_+_, _-_, _≤_, _^_};
+ghost use Prim.Native.Nat.{_≤_, _^_};
 ghost use lib.IntN.{pos, _-ℤ_};
 ghost use Rattle.terms.specs.Terms.{REV, ER};
-ghost use Rattle.requirement.specs.Requirement.{schedOf, flagOf, tableOf};
+ghost use Rattle.requirement.specs.Requirement.{RowFits, rowFrom, tableOf};
 use terms::DirectionTerms;
 use terms::Quantities;
 
@@ -33,8 +33,8 @@ fn less_shortfall(rev: u64, shortfall: u64) -> i64
 
 // A period's row, where its start is REV less the shortfall.
 fn row_of(rev: u64, er: u64, bound: u32, left: u64, back: u64, shortfall: u64) -> Row
-    requires { ⌜ (rev ≤ 2 ^ 44) × (left ≤ 2 ^ 35) × (shortfall ≤ 2 ^ 35) × (back ≤ shortfall) ⌝ }
-    ensures { λ r. ⌜ r ≡ record { left = left; sched = schedOf er bound left; back = back; start = pos rev -ℤ pos shortfall; end = pos rev -ℤ pos (shortfall + bound - back); flag = flagOf (pos rev -ℤ pos shortfall) (pos rev -ℤ pos (shortfall + bound - back)) } ⌝ }
+    requires { ⌜ RowFits rev left back shortfall ⌝ }
+    ensures { λ r. ⌜ r ≡ rowFrom er bound left back (pos rev -ℤ pos shortfall) ⌝ }
 {
     let due = bound as u64 + left;
     let next = shortfall + bound as u64 - back;

@@ -1,5 +1,6 @@
 // The services of Dynamic Response with their constants, the terms of a direction, and the terms check.
 ghost use mathlib.Core.Path.{_≡_};
+ghost use Prim.Native.Nat.{_<_, _^_};
 ghost use Rattle.common.specs.Answer.{numberOf};
 ghost use Rattle.terms.specs.Terms.{directionTerms, above1000, power, limitBroken, limitsBroken, answerOf, termsCheck};
 
@@ -97,10 +98,10 @@ fn power_of(own: Quantities, other: Quantities) -> u64
 }
 
 fn limit_broken(limit: i64, power: u64) -> bool
+    requires { ⌜ power < 2 ^ 63 ⌝ }
     ensures { λ r. ⌜ r ≡ limitBroken limit power ⌝ }
 {
-    let most = signed::above_zero(limit);
-    (0 < signed::below_zero(limit)) | (2_000_000 < most) | (most < power)
+    !((0 <= limit) & (limit <= 2_000_000)) | (limit < power as i64)
 }
 
 pub fn limits_broken(t: Terms) -> bool

@@ -40,7 +40,7 @@ array-copy-out-next : tie.Need-array-copy-out-next Inv-loop μ-loop
 array-copy-out-next c = omega arith
 
 on-line-requires : tie.Need-on-line-requires Inv-loop μ-loop
-on-line-requires c κs = omega arith
+on-line-requires c κs = search needs
 
 returns : tie.Need-returns Inv-loop μ-loop
 unfolding capabilityOf
@@ -60,7 +60,7 @@ loop-again c =
     farther-on _ _ _ (t .before .loop .inv) (t .loop-test .taken) (c .if1 .left)
 
 on-line-requires-2 : tie.Need-on-line-requires-2 Inv-loop μ-loop
-on-line-requires-2 c κs = omega arith
+on-line-requires-2 c κs = search needs
 
 returns-2 : tie.Need-returns-2 Inv-loop μ-loop
 unfolding capabilityOf

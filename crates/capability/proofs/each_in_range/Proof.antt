@@ -2,8 +2,6 @@
 use mathlib.Core.Bool.{and-true}
 use borrow.Author.Needs.{needs}
 use Rattle.common.specs.Lists.{every}
-use Rattle.capability.specs.Capability.{inRange}
-use Rattle.capability.proofs.Fields.{fields}
 use Rattle.capability.proofs.each_in_range.Statement.{statement}
 use Rattle.capability.proofs.each_in_range.Tie as tie
 
@@ -25,21 +23,15 @@ in-range-requires-5 c κs = search needs
 returns : tie.Need-returns
 unfolding every
 returns c =
-    let l = c .before .before .before .before .before .before .before .before .before .before .args .l in
-    let f = fields l (c .before .struct-told5 .given) in
     rw (
       c .in-range5 .ensures,
       c .before .before .in-range4 .ensures,
       c .before .before .before .before .in-range3 .ensures,
       c .before .before .before .before .before .before .in-range2 .ensures,
       c .before .before .before .before .before .before .before .before .in-range .ensures,
-      f .mil,
-      f .sil,
-      f .sel,
-      f .mel,
-      f .ol,
-      and-true (inRange (l .ol)),
+      and-true,
     )
+    (search needs)
 
 pub each-in-range-spec : {M : Type 1} → statement M
 each-in-range-spec =

@@ -1,7 +1,7 @@
 -- `capability::on_line` meets its contract. Assumes nothing.
 use native.Mathlib.Omega.{arith}
 use borrow.Author.Needs.{needs}
-use Rattle.capability.proofs.Lines.{level-most, climb-most, numerator-most}
+use Rattle.capability.proofs.Lines.{level-most, climb-most, division-fits}
 use Rattle.capability.proofs.on_line.Statement.{statement}
 use Rattle.capability.proofs.on_line.Tie as tie
 
@@ -29,22 +29,22 @@ cast-rounded-down c = search needs
 mul-rounded-down : tie.Need-mul-rounded-down
 mul-rounded-down c =
     let s = c .before .before .before .before .before .before in
-    omega (arith, level-most _ _ _ _ _ (s .pre) (s .fits .room .fits))
+    omega (arith, level-most _ _ _ (s .pre) (s .fits .room .fits))
 
 mul-rounded-down-2 : tie.Need-mul-rounded-down-2
 mul-rounded-down-2 c =
     let s = c .before .before .before .before .before .before in
-    omega (arith, climb-most _ _ _ _ _ (s .pre) (s .fits .room .fits))
+    omega (arith, climb-most _ _ _ (s .pre) (s .fits .room .fits))
 
 add-rounded-down : tie.Need-add-rounded-down
 add-rounded-down c =
     let s = c .before .before .before .before .before .before in
-    omega (arith, numerator-most _ _ _ _ _ (s .pre) (s .fits .room .fits))
+    omega (arith, division-fits _ _ _ (s .pre) (s .fits .room .fits))
 
 rounded-down-requires : tie.Need-rounded-down-requires
 rounded-down-requires c κs =
     let s = c .before .before .before .before .before .before in
-    (numerator-most _ _ _ _ _ (s .pre) (s .fits .room .fits), omega arith, omega arith)
+    (omega arith, division-fits _ _ _ (s .pre) (s .fits .room .fits))
 
 returns : tie.Need-returns
 returns c = search needs

@@ -25,10 +25,10 @@ count-holds : (e : tie.Else1 Inv-loop μ-loop) → let n = e .before .before .ar
 count-holds e = not-false _ (e .if1 .left)
 
 -- a point passed and the next one, as the code tests them
-tested : (c : tie.After-rises-to Inv-loop μ-loop) → let l = c .before .before .before .before .loop in
-    c .before .point-in-range .result && c .rises-to .result
+tested : (c : tie.After-rises Inv-loop μ-loop) → let l = c .before .before .before .before .loop in
+    c .before .point-in-range .result && c .rises .result
     ≡ pointInRange (l .last) && rises (l .last) (at (c .before .before .before .before .before .before .before .before .before .before .before .args .ps .points) (l .i))
-tested c = rw (c .before .point-in-range .ensures, c .rises-to .ensures)
+tested c = rw (c .before .point-in-range .ensures, c .rises .ensures)
 
 cast-count : tie.Need-cast-count Inv-loop μ-loop
 cast-count c = search needs
@@ -60,8 +60,8 @@ array-copy-out-next c = omega arith
 point-in-range-requires : tie.Need-point-in-range-requires Inv-loop μ-loop
 point-in-range-requires c κs = search needs
 
-rises-to-requires : tie.Need-rises-to-requires Inv-loop μ-loop
-rises-to-requires c κs = search needs
+rises-requires : tie.Need-rises-requires Inv-loop μ-loop
+rises-requires c κs = search needs
 
 returns-3 : tie.Need-returns-3 Inv-loop μ-loop
 returns-3 c =
@@ -102,7 +102,7 @@ points-hold-spec =
     mul-next
     array-copy-out-next
     point-in-range-requires
-    rises-to-requires
+    rises-requires
     returns-3
     add-i
     loop-less

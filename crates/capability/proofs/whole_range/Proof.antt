@@ -1,19 +1,21 @@
 -- `capability::whole_range` meets its contract. Assumes nothing.
+use mathlib.Core.Path.{_≡_}
+use native.Mathlib.Omega.{arith}
 use borrow.Author.Needs.{needs}
-use Rattle.capability.proofs.Fields.{fields}
+use lib.Dec.{eqb}
+use lib.IntN.{ℤ, pos}
+use mir.Syntax.{w64}
+use mir.Val.{SFits, ofZ}
+use Rattle.signed.specs.Sign.{eqZ}
+use Rattle.signed.proofs.Bits.{eqZ-bits}
 use Rattle.capability.proofs.whole_range.Statement.{statement}
 use Rattle.capability.proofs.whole_range.Tie as tie
 
-is-zero-requires : tie.Need-is-zero-requires
-is-zero-requires c κs = search needs
-
-is-zero-requires-2 : tie.Need-is-zero-requires-2
-is-zero-requires-2 c κs = search needs
+zero-bits : {z : ℤ} → SFits w64 z → eqb (ofZ w64 z) 0 ≡ eqZ z (pos 0)
+zero-bits f = eqZ-bits {b = pos 0} f (record { sfits = omega arith })
 
 returns : tie.Need-returns
-returns c =
-    let f = fields (c .before .before .before .before .args .l) (c .before .struct-told2 .given) in
-    rw (c .is-zero2 .ensures, c .before .before .is-zero .ensures, f .sel, f .sil)
+returns c = search (needs, zero-bits)
 
 pub whole-range-spec : {M : Type 1} → statement M
-whole-range-spec = tie.close (tie.spec is-zero-requires is-zero-requires-2 returns)
+whole-range-spec = tie.close (tie.spec returns)

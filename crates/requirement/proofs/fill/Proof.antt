@@ -43,7 +43,13 @@ array-read-back : tie.Need-array-read-back Inv-loop μ-loop
 array-read-back c = search needs
 
 row-of-requires-2 : tie.Need-row-of-requires-2 Inv-loop μ-loop
-row-of-requires-2 c κs = (c .before .before .before .pre, omega arith, omega arith, back-fits _ _ _ (c .before .loop .inv) (c .loop-test .taken))
+row-of-requires-2 c κs =
+    record {
+      rev-most = c .before .before .before .pre;
+      left-most = omega arith;
+      short-most = omega arith;
+      back-most = back-fits _ _ _ (c .before .loop .inv) (c .loop-test .taken);
+    }
 
 mul-rows : tie.Need-mul-rows Inv-loop μ-loop
 mul-rows c = search needs

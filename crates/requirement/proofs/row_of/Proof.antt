@@ -3,6 +3,7 @@ use Prim.Native.Nat.{_+_, _-_}
 use borrow.Author.Needs.{needs, sfits-of}
 use mir.Facts.{toZ-ofZ}
 use Rattle.signed.proofs.Signs.{sub-leZ0}
+use Rattle.requirement.proofs.Shortfall.{end-less}
 use Rattle.requirement.proofs.row_of.Statement.{statement}
 use Rattle.requirement.proofs.row_of.Tie as tie
 
@@ -35,6 +36,7 @@ returns c =
       toZ-ofZ {z = d2 .result} (sfits-of (d2 .ok)),
       d .ensures,
       d2 .ensures,
+      end-less (a .rev) (a .shortfall) (a .back) (a .bound) (c .before .before .before .pre .back-most),
       sub-leZ0 (a .rev) (a .shortfall),
       sub-leZ0 (a .rev) (a .shortfall + a .bound - a .back),
     )

@@ -1,6 +1,5 @@
 -- `terms::limits_broken` meets its contract. Assumes nothing.
-use borrow.Author.Needs.{needs, sfits-of}
-use mir.Facts.{toZ-ofZ}
+use borrow.Author.Needs.{needs}
 use Rattle.terms.specs.Terms.{limitsBroken}
 use Rattle.terms.proofs.limits_broken.Statement.{statement}
 use Rattle.terms.proofs.limits_broken.Tie as tie
@@ -12,25 +11,16 @@ power-of-requires-2 : tie.Need-power-of-requires-2
 power-of-requires-2 c κs = search needs
 
 limit-broken-requires : tie.Need-limit-broken-requires
-limit-broken-requires c κs = search needs
+limit-broken-requires c κs = rw (c .before .before .power-of .ensures) (search needs)
 
 limit-broken-requires-2 : tie.Need-limit-broken-requires-2
-limit-broken-requires-2 c κs = search needs
+limit-broken-requires-2 c κs = rw (c .before .before .before .power-of2 .ensures) (search needs)
 
 returns : tie.Need-returns
 unfolding limitsBroken
 returns c =
-    let told2 = c .before in
-    let told = told2 .before .before in
-    let t = told .before .before .before .before .before .args .t in
-    rw (
-      c .limit-broken2 .ensures,
-      told2 .before .limit-broken .ensures,
-      toZ-ofZ {z = t .«import_limit»} (sfits-of (told2 .struct-told2 .given .1 .1 .1 .0 .1)),
-      toZ-ofZ {z = t .«export_limit»} (sfits-of (told .struct-told .given .1 .1 .0 .1)),
-      told .before .power-of2 .ensures,
-      told .before .before .power-of .ensures,
-    )
+    let p = c .before .before .before .before in
+    rw (c .limit-broken2 .ensures, c .before .before .limit-broken .ensures, p .power-of2 .ensures, p .before .power-of .ensures) (search needs)
 
 pub limits-broken-spec : {M : Type 1} → statement M
 limits-broken-spec =

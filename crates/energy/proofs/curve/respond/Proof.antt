@@ -59,7 +59,14 @@ response-between-requires c κs =
     let l = t .before .loop .inv .1 in
     let r = next-rises _ _ _ l (below t) (le-refl _) _ (n .point-at2 .ensures) in
     let q = next-range _ _ _ l (below t) (le-refl _) _ (n .point-at2 .ensures) in
-    (start (t .before) .pre .0, q .deviation-le, r .no-less, q .share-le, l .past, c .if3 .taken)
+    record {
+      mw-most = start (t .before) .pre .0;
+      no-less = r .no-less;
+      deviation-most = q .deviation-le;
+      share-most = q .share-le;
+      past = l .past;
+      before-next = c .if3 .taken;
+    }
 
 returns-3 : tie.Need-returns-3 Inv-loop μ-loop
 returns-3 c =

@@ -14,10 +14,10 @@ abbrev curves : tie.Start → Curves
 curves s = curvesIn (s .args .dc .now) (s .args .dm .now) (s .args .dr .now)
 
 respond-requires : tie.Need-respond-requires
-respond-requires c κs = let s = start c in (omega arith, rules (curves s) (s .pre .1) .0)
+respond-requires c κs = let s = start c in (omega arith, rules (curves s) (s .pre .1) .dc)
 
 respond-requires-2 : tie.Need-respond-requires-2
-respond-requires-2 c κs = let s = start (c .before) in (omega arith, rules (curves s) (s .pre .1) .1)
+respond-requires-2 c κs = let s = start (c .before) in (omega arith, rules (curves s) (s .pre .1) .dm)
 
 add-result : tie.Need-add-result
 add-result c =
@@ -25,7 +25,7 @@ add-result c =
     omega (arith, responses-le (s .args .q) (curves s) (s .pre .1) (s .args .deviation))
 
 respond-requires-3 : tie.Need-respond-requires-3
-respond-requires-3 c κs = let s = start (c .before .before) in (omega arith, rules (curves s) (s .pre .1) .2)
+respond-requires-3 c κs = let s = start (c .before .before) in (omega arith, rules (curves s) (s .pre .1) .dr)
 
 add-result-2 : tie.Need-add-result-2
 add-result-2 c =

@@ -70,13 +70,13 @@ low-deviation-requires c κs = search needs
 respond-all-requires : tie.Need-respond-all-requires Inv-loop μ-loop
 respond-all-requires c κs =
     let s = start (c .before .before .before .before .before) in
-    (s .pre .0, s .pre .2)
+    (s .pre .low-most, s .pre .curves)
 
 add-low-sum : tie.Need-add-low-sum Inv-loop μ-loop
 add-low-sum c =
     let l = c .before .before .before .before .before .before in
     let s = start l in
-    let le = responses-le (s .args .low) (curves s) (s .pre .2) (lowDeviation (getD (s .args .readings .now) (l .loop .i) 0)) in
+    let le = responses-le (s .args .low) (curves s) (s .pre .curves) (lowDeviation (getD (s .args .readings .now) (l .loop .i) 0)) in
     omega (arith, le, l .loop .inv, s .pre, low-added c)
 
 high-deviation-requires : tie.Need-high-deviation-requires Inv-loop μ-loop
@@ -85,13 +85,13 @@ high-deviation-requires c κs = search needs
 respond-all-requires-2 : tie.Need-respond-all-requires-2 Inv-loop μ-loop
 respond-all-requires-2 c κs =
     let s = start (c .before .before .before .before .before .before .before) in
-    (s .pre .1, s .pre .2)
+    (s .pre .high-most, s .pre .curves)
 
 add-high-sum : tie.Need-add-high-sum Inv-loop μ-loop
 add-high-sum c =
     let l = c .before .before .before .before .before .before .before .before in
     let s = start l in
-    let le = responses-le (s .args .high) (curves s) (s .pre .2) (highDeviation (getD (s .args .readings .now) (l .loop .i) 0)) in
+    let le = responses-le (s .args .high) (curves s) (s .pre .curves) (highDeviation (getD (s .args .readings .now) (l .loop .i) 0)) in
     omega (arith, le, l .loop .inv, s .pre, high-added c)
 
 add-i : tie.Need-add-i Inv-loop μ-loop
@@ -108,7 +108,7 @@ loop-again c =
     let s = start (t .before) in
     let good = sym (u .is-reading .ensures) ∙ not-false (u .is-reading .result) (e .if2 .left) in
     rw (low-added (c .before .before), high-added c)
-    (step _ _ _ _ (t .before .loop .inv) (s .pre .2) (s .pre .0) (s .pre .1) (t .loop-test .taken) good)
+    (step _ _ _ _ (t .before .loop .inv) (s .pre) (t .loop-test .taken) good)
 
 period-kwh-requires : tie.Need-period-kwh-requires Inv-loop μ-loop
 period-kwh-requires c κs = omega (arith, c .before .loop .inv)
