@@ -78,13 +78,6 @@ listRule (p ∷ ps) = eqb (p .room) 0 && chain pointInRange rises p ps
 unfoldable pub pointsRule : Points → Bool
 pointsRule ps = leb 2 (ps .count) && leb (ps .count) 5 && listRule (pointsOf ps)
 
--- what the rule says of two points that follow each other
-pub record Segment (p q : Point) : Type 0 where
-  pub farther : p .room < q .room
-  pub no-less : p .capability ≤ q .capability
-  pub room-most : q .room ≤ 4000000
-  pub capability-most : q .capability ≤ 4000000
-
 abbrev pub line : Point → Point → ℕ → Fraction
 line p q room = onLine (p .room) (p .capability) (q .room) (q .capability) room
 
@@ -125,3 +118,12 @@ quantityAnswer direction l ps limit =
 abbrev pub answerOf : CapabilityAnswer → Answer ℕ
 answerOf (Power kw) = given kw
 answerOf Data = refused 12
+
+-- ---- what the private function `on_line` asks
+
+-- what the rule says of two points that follow each other
+pub record Segment (p q : Point) : Type 0 where
+  pub farther : p .room < q .room
+  pub no-less : p .capability ≤ q .capability
+  pub room-most : q .room ≤ 4000000
+  pub capability-most : q .capability ≤ 4000000

@@ -40,25 +40,6 @@ endOf start back e = start +ℤ pos back -ℤ pos e
 abbrev pub flagOf : ℤ → ℤ → Bool
 flagOf start end = leZ start (pos 0) || leZ end (pos 0)
 
--- a period's row, from its bound, what is left and what comes back, and its start
-abbrev pub rowFrom : ℕ → ℕ → ℕ → ℕ → ℤ → Row
-rowFrom ER e left back start =
-    record {
-      left = left;
-      sched = schedOf ER e left;
-      back = back;
-      start = start;
-      end = endOf start back e;
-      flag = flagOf start (endOf start back e);
-    }
-
--- what `row_of` asks, where start is REV less the shortfall: its sums fit, and no more comes back than is short
-pub record RowFits (REV left back shortfall : ℕ) : Type 0 where
-  pub rev-most : REV ≤ 2 ^ 44
-  pub left-most : left ≤ 2 ^ 35
-  pub short-most : shortfall ≤ 2 ^ 35
-  pub back-most : back ≤ shortfall
-
 module _ (REV ER : ℕ) (e : ℕ → ℕ) where
   -- start(1) = REV; start(i+1) = end(i)
   unfoldable pub start : ℕ → ℤ
@@ -90,3 +71,24 @@ tableOf REV ER bounds =
       rows = map (rowOf REV ER (ofPeriod bounds)) (periodsTo 8);
       start9 = start REV ER (ofPeriod bounds) 9;
     }
+
+-- ---- what the private function `row_of` makes and asks
+
+-- a period's row, from its bound, what is left and what comes back, and its start
+abbrev pub rowFrom : ℕ → ℕ → ℕ → ℕ → ℤ → Row
+rowFrom ER e left back start =
+    record {
+      left = left;
+      sched = schedOf ER e left;
+      back = back;
+      start = start;
+      end = endOf start back e;
+      flag = flagOf start (endOf start back e);
+    }
+
+-- where start is REV less the shortfall: the sums fit, and no more comes back than is short
+pub record RowFits (REV left back shortfall : ℕ) : Type 0 where
+  pub rev-most : REV ≤ 2 ^ 44
+  pub left-most : left ≤ 2 ^ 35
+  pub short-most : shortfall ≤ 2 ^ 35
+  pub back-most : back ≤ shortfall
