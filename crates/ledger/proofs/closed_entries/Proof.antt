@@ -3,8 +3,8 @@ use borrow.Author.Needs.{needs, sfits-of}
 use lib.ListN.{getD, set}
 use mir.Facts.{toZ-ofZ}
 use Rattle.requirement.specs.Requirement.{rowOf}
+use Rattle.ledger_record.proofs.Rows.{noRow, row-is}
 use Rattle.ledger.specs.Calls.{closedEntries}
-use Rattle.ledger.proofs.NextRow.{noRow, row-is}
 use Rattle.ledger.proofs.closed_entries.Statement.{statement}
 use Rattle.ledger.proofs.closed_entries.Tie as tie
 

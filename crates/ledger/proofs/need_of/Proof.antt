@@ -12,8 +12,8 @@ use Rattle.terms.specs.Terms.{REV, ER}
 use Rattle.requirement.proofs.Laws.{back-recovery}
 use Rattle.requirement.proofs.Need.{needed, needed-is, needed-most, start-above}
 use Rattle.ledger_record.specs.Rule.{startAt, backAt}
+use Rattle.ledger_record.proofs.Rows.{noRow, start-of, back-of}
 use Rattle.ledger.specs.Calls.{need}
-use Rattle.ledger.proofs.NextRow.{noRow, start-of, back-of}
 use Rattle.ledger.proofs.need_of.Statement.{statement}
 use Rattle.ledger.proofs.need_of.Tie as tie
 

@@ -15,7 +15,13 @@ returns : tie.Need-returns
 returns c =
     let low = c .before .need-of .ensures in
     let high = c .need-of2 .ensures in
-    (low .0, ap (λ z. pos (c .before .before .before .before .before .before .before .args .given .size) -ℤ z) (high .0), low .1, high .1)
+    let size = c .before .before .before .before .before .before .before .args .given .size in
+    record {
+      floor-is = low .0;
+      ceiling-is = ap (λ z. pos size -ℤ z) (high .0);
+      low-most = low .1;
+      high-most = high .1;
+    }
 
 pub needs-of-spec : {M : Type 1} → statement M
 needs-of-spec = tie.close (tie.spec need-of-requires need-of-requires-2 returns)

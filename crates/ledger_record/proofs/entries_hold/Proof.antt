@@ -1,4 +1,4 @@
--- `ledger_record::entries_hold` meets its contract. The loop's invariant is `So`, and a turn keeps it by `step`. Assumes nothing.
+-- `ledger_record::entries_hold` meets its contract. The loop's invariant is `HeldSoFar`, and a turn keeps it by `step`. Assumes nothing.
 use mathlib.Core.Path.{ap}
 use Prim.Native.Nat.{_-_, _*_}
 use borrow.Author.Needs.{needs, sfits-of}
@@ -6,12 +6,12 @@ use lib.IntN.{pos}
 use lib.ListN.{getD}
 use mir.Facts.{toZ-ofZ}
 use Rattle.terms.specs.declared.DirectionTerms.{DirectionTerms}
-use Rattle.ledger_record.proofs.Entry.{So, begin, step, done}
+use Rattle.ledger_record.proofs.Entry.{HeldSoFar, begin, step, done}
 use Rattle.ledger_record.proofs.entries_hold.Statement.{statement}
 use Rattle.ledger_record.proofs.entries_hold.Tie as tie
 
 abbrev Inv-loop : tie.InvT-loop
-Inv-loop closed bounds starts scheds most rows holds₀ i₀ holds i = So closed most bounds starts scheds rows holds i
+Inv-loop closed bounds starts scheds most rows holds₀ i₀ holds i = HeldSoFar closed most bounds starts scheds rows holds i
 
 abbrev μ-loop : tie.MeasureT-loop
 μ-loop closed bounds starts scheds most rows holds₀ i₀ holds i = 8 - i

@@ -1,9 +1,7 @@
 -- `ledger_record::state_holds` meets its contract. Assumes nothing.
-use Prim.Native.Nat.{suc}
-use borrow.Author.Needs.{needs}
-use Rattle.signed.proofs.Orders.{balance}
-use Rattle.ledger_record.specs.Rule.{startAt, stateRule}
-use Rattle.ledger_record.proofs.State.{passes-is}
+use borrow.Author.Needs.{needs, sfits-of}
+use mir.Facts.{toZ-ofZ}
+use Rattle.ledger_record.specs.Rule.{stateRule}
 use Rattle.ledger_record.proofs.state_holds.Statement.{statement}
 use Rattle.ledger_record.proofs.state_holds.Tie as tie
 
@@ -24,14 +22,13 @@ unfolding stateRule
 returns c =
     let p = c .before in
     let n = p .before in
-    let g = n .before .before .before .before .before .before .before .args .given in
     rw (
       c .balances .ensures,
       p .state-passes .ensures,
+      toZ-ofZ {z = n .next-start2 .result} (sfits-of (n .next-start2 .ok)),
+      toZ-ofZ {z = n .before .next-start .result} (sfits-of (n .before .next-start .ok)),
       n .next-start2 .ensures,
       n .before .next-start .ensures,
-      passes-is (g .state) (g .size) (startAt (g .terms .low) (g .low) (suc (g .closed))) (startAt (g .terms .high) (g .high) (suc (g .closed))),
-      balance (g .state) (g .first) (g .bought) (g .sold) (g .delivered) (g .taken),
     )
 
 pub state-holds-spec : {M : Type 1} → statement M
