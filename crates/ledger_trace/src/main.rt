@@ -9,6 +9,7 @@ mod show;
 mod state;
 mod text;
 
+use bytes::scan::find;
 use libc::STDIN_FILENO;
 use state::State;
 use text::Numbers;
@@ -72,10 +73,7 @@ fn call(word: u64, numbers: Numbers, state: State, space: &mut [u16]) -> State {
 }
 
 fn take_line(line: &[u8], state: State, space: &mut [u16]) -> State {
-    let end = text::find(line, 0, b' ');
-    if line.len() < end {
-        return state::refuse(state);
-    }
+    let end = find(line, 0, line.len(), b' ');
     let numbers = text::numbers_from(line, end);
     if !numbers.good {
         return state::refuse(state);
@@ -90,8 +88,8 @@ fn take_lines(input: &[u8], space: &mut [u16]) -> u64 {
     let mut at: usize = 0;
     while at < input.len() {
         number += 1;
-        let end = text::find(input, at, b'\n');
-        if input.len() <= end {
+        let end = find(input, at, input.len(), b'\n');
+        if end == input.len() {
             return number;
         }
         let next = end + 1;

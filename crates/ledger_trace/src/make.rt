@@ -12,16 +12,18 @@ use ledger_record::Record;
 // The first eight numbers of a record.
 fn with_field(given: Record, which: u32, n: u32) -> Record {
     let mut record = given;
+    let mut totals = given.totals;
     match which {
         0 => record.size = n,
         1 => record.first = n,
         2 => record.state = n,
         3 => record.closed = n,
-        4 => record.bought = n,
-        5 => record.sold = n,
-        6 => record.delivered = n,
-        _ => record.taken = n,
+        4 => totals.bought = n,
+        5 => totals.sold = n,
+        6 => totals.delivered = n,
+        _ => totals.taken = n,
     }
+    record.totals = totals;
     record
 }
 
