@@ -77,8 +77,8 @@ module _ (r : Record) where
   pub closed-most : recordRule r ≡ true → r .closed ≤ 8
   closed-most e = leb-true (r .closed) 8 (parts e .closed-holds)
 
-  pub fits : recordRule r ≡ true → LetThrough (r .terms) (r .curves) (r .size) (r .first)
-  fits e = let-through (r .terms) (r .curves) (r .size) (r .first) (parts e .opening-holds)
+  pub opened : recordRule r ≡ true → LetThrough (r .terms) (r .curves) (r .size) (r .first)
+  opened e = let-through (r .terms) (r .curves) (r .size) (r .first) (parts e .opening-holds)
 
   -- where the arrays have eight entries, the totals are in range
   pub record Kept : Type 0 where
@@ -92,7 +92,7 @@ module _ (r : Record) where
   unfolding totalsRule stateRule
   kept low-long high-long e =
       let p = parts e in
-      let f = fits e in
+      let f = opened e in
       let bought-in = leb (r .totals .bought) (10000000 * r .closed) in
       let sold-in = leb (r .totals .sold) (10000000 * r .closed) in
       let delivered-in = leb (r .totals .delivered) (sum (r .low .bounds)) in

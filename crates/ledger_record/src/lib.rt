@@ -183,7 +183,8 @@ pub fn blank_record() -> Record
 
 // Opens a record: refusals 1, 2, 5, 3, 4; a blank record stands beside a refusal.
 pub fn open_record(t: Terms, curves: Curves, size: u32, first: u32) -> Opened
-    ensures { λ r. ⌜ (answerOf r ≡ opening t curves size first) × (r .«record» ≡ orBlank blankRecord (opening t curves size first)) ⌝ }
+    ensures answer { λ r. ⌜ answerOf r ≡ opening t curves size first ⌝ }
+    ensures beside { λ r. ⌜ r .«record» ≡ orBlank blankRecord (opening t curves size first) ⌝ }
 {
     let answer = opening_answer(t, curves, size, first);
     if !is_open(answer) {
