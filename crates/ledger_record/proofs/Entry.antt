@@ -1,17 +1,16 @@
 -- The loop of `entries_hold`: after i turns, whether the entries of the periods 1 to i keep the rule. Assumes nothing.
 use mathlib.Core.Path.{_≡_, refl, ap, _∙_}
-use mathlib.Core.Bool.{Bool, true, cond, _&&_}
+use mathlib.Core.Bool.{Bool, true, _&&_}
 use mathlib.Core.List.{List}
 use Prim.Native.Nat.{ℕ, suc, _+_, _-_, _*_, _≤_, _<_}
 use native.Mathlib.Numerals.{add-one}
 use native.Mathlib.Omega.{arith}
-use lib.Dec.{leb, ltb, eqb}
+use lib.Dec.{ltb}
 use lib.IntN.{ℤ, pos}
 use lib.ListN.{getD}
 use Rattle.common.specs.Lists.{every}
 use Rattle.common.specs.Periods.{periodsTo, ofPeriod}
-use Rattle.common.proofs.Periods.{period-at, every-next}
-use Rattle.signed.specs.Sign.{eqZ}
+use Rattle.common.proofs.Periods.{every-next}
 use Rattle.terms.specs.Terms.{Q, REV, ER}
 use Rattle.terms.specs.declared.Quantities.{Quantities}
 use Rattle.requirement.specs.Requirement.{sched, rowOf, tableOf}

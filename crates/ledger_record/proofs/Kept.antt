@@ -1,12 +1,11 @@
 -- What a record that keeps the record rule tells of its numbers. Assumes nothing.
 use mathlib.Core.Path.{_≡_}
-use mathlib.Core.Bool.{Bool, true, false, cond, _&&_}
-use Prim.Native.Nat.{ℕ, suc, _-_, _*_, _≤_}
+use mathlib.Core.Bool.{Bool, true, false, _&&_}
+use Prim.Native.Nat.{ℕ, suc, _-_, _*_, _≤_, _<_}
 use native.Mathlib.Omega.{arith}
 use borrow.Author.Tests.{leb-true, eqb-true, ltb-false}
-use lib.Dec.{leb, eqb}
-use lib.IntN.{pos}
-use lib.ListN.{length, getD}
+use lib.Dec.{leb}
+use lib.ListN.{length}
 use Rattle.common.specs.Answer.{clear}
 use Rattle.common.specs.Lists.{sum}
 use Rattle.common.specs.Periods.{ofPeriod}
@@ -23,11 +22,9 @@ use Rattle.ledger_record.proofs.Entry.{heldIf}
 use Rattle.ledger_record.proofs.Openings.{LetThrough, let-through}
 
 -- a bound is at most 500 × Q, whether its period is closed or not
-bound-most : (q : Quantities) (closed : ℕ) (x : Entries) (k : ℕ) → entryRule q closed x (suc k) ≡ true → getD (x .bounds) k 0 ≤ 500 * Q q
-unfolding entryRule
-bound-most q closed x k e =
-    let p : suc k - 1 ≡ k = omega arith in
-    rw p at (by (leb (suc k) closed) e)
+pub bound-most : (q : Quantities) (closed : ℕ) (x : Entries) (k : ℕ) → k < 8 → entriesRule q closed x ≡ true → ofPeriod (x .bounds) (suc k) ≤ 500 * Q q
+unfolding entriesRule entryRule
+bound-most q closed x k h e = by (leb (suc k) closed) (period-holds (entryRule q closed x) 8 k e h)
   where
     b : ℕ
     b = ofPeriod (x .bounds) (suc k)
@@ -39,9 +36,8 @@ bound-most q closed x k e =
         omega arith
 
 sum-most : (q : Quantities) (closed : ℕ) (x : Entries) → length (x .bounds) ≡ 8 → above1000 q ≡ false → entriesRule q closed x ≡ true → sum (x .bounds) ≤ 4000000
-unfolding entriesRule
 sum-most q closed x long few e =
-    let each = sum-entries (500 * Q q) (x .bounds) (λ i l. bound-most q closed x i (period-holds (entryRule q closed x) 8 i e (omega arith))) in
+    let each = sum-entries (500 * Q q) (x .bounds) (λ i l. let p : suc i - 1 ≡ i = omega arith in rw p at (bound-most q closed x i (omega arith) e)) in
     omega (arith, rw long at each, ltb-false 1000 (Q q) few)
 
 module _ (r : Record) where

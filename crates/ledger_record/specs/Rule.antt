@@ -28,15 +28,15 @@ schedAt q x i = sched (ER q) (ofPeriod (x .bounds)) i
 unfoldable pub backAt : Quantities → Entries → ℕ → ℕ
 backAt q x i = back (ER q) (ofPeriod (x .bounds)) i
 
--- a closed period's bound is at most the most, and its requirement and schedule are those of the bounds; entries of periods not
--- closed are 0
+-- a closed period has a bound of at most 500 × Q, `most`, and the requirement and schedule of the bounds, `start` and `sched`;
+-- entries of periods not closed are 0
 abbrev pub entryHolds : Bool → ℕ → ℕ → ℤ → ℕ → ℤ → ℕ → Bool
 entryHolds closed most bound requirement schedule start sched =
     cond closed
     (leb bound most && (eqZ requirement start && eqb schedule sched))
     (eqb bound 0 && (eqZ requirement (pos 0) && eqb schedule 0))
 
--- bounds are at most 500 × Q; requirements and schedules are those of the bounds
+-- the entries of period i
 unfoldable pub entryRule : Quantities → ℕ → Entries → ℕ → Bool
 entryRule q closed x i =
     entryHolds (leb i closed) (500 * Q q)

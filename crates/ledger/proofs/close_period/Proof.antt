@@ -11,7 +11,7 @@ use lib.ListN.{length}
 use mir.Facts.{toZ-ofZ}
 use Rattle.common.specs.Answer.{given}
 use Rattle.common.proofs.Tests.{both-true}
-use Rattle.signed.specs.Sign.{above, below, within}
+use Rattle.signed.specs.Sign.{above, within}
 use Rattle.terms.specs.Terms.{Q}
 use Rattle.energy.specs.Period.{lowDeviation, highDeviation}
 use Rattle.energy.proofs.Laws.{bound-most}

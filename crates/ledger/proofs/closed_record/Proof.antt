@@ -5,6 +5,9 @@ use Rattle.ledger.specs.Calls.{closedRecord}
 use Rattle.ledger.proofs.closed_record.Statement.{statement}
 use Rattle.ledger.proofs.closed_record.Tie as tie
 
+abbrev start : tie.After-closed-entries → tie.Start
+start c = c .before .before .before .before .before .before .before .before
+
 add-t16 : tie.Need-add-t16
 add-t16 c = search needs
 
@@ -21,7 +24,7 @@ returns : tie.Need-returns
 unfolding closedRecord
 returns c =
     let e = c .before in
-    let f = e .before .before .before .before .before .before .before .before .before .fits in
+    let f = start (e .before) .fits in
     rw (
       c .closed-totals .ensures,
       toZ-ofZ (f .purchase),

@@ -1,5 +1,6 @@
 -- `ledger::closed_totals` meets its contract. Assumes nothing.
 use mathlib.Core.Path.{_≡_, ap, _∙_}
+use Prim.Native.Nat.{_+_}
 use native.Mathlib.Omega.{arith}
 use borrow.Author.Needs.{needs}
 use mir.Facts.{toZ-ofZ}
@@ -7,18 +8,27 @@ use Rattle.signed.specs.Sign.{above, below}
 use Rattle.ledger.proofs.closed_totals.Statement.{statement}
 use Rattle.ledger.proofs.closed_totals.Tie as tie
 
+abbrev at-sold : tie.After-below-zero → tie.Start
+at-sold c = c .before .before .before
+
+abbrev at-delivered : tie.After-above-zero2 → tie.Start
+at-delivered c = at-sold (c .before .before)
+
+abbrev at-taken : tie.After-above-zero3 → tie.Start
+at-taken c = at-delivered (c .before .before)
+
 -- what the closing adds
 bought-is : (c : tie.After-above-zero) → c .above-zero .result ≡ above (c .before .args .purchase)
 bought-is c = c .above-zero .ensures ∙ ap above (toZ-ofZ (c .before .fits .purchase))
 
-sold-is : (c : tie.After-below-zero) → c .below-zero .result ≡ below (c .before .before .before .args .purchase)
-sold-is c = c .below-zero .ensures ∙ ap below (toZ-ofZ (c .before .before .before .fits .purchase))
+sold-is : (c : tie.After-below-zero) → c .below-zero .result ≡ below (at-sold c .args .purchase)
+sold-is c = c .below-zero .ensures ∙ ap below (toZ-ofZ (at-sold c .fits .purchase))
 
-delivered-is : (c : tie.After-above-zero2) → c .above-zero2 .result ≡ above (c .before .before .before .before .before .args .delivered)
-delivered-is c = c .above-zero2 .ensures ∙ ap above (toZ-ofZ (c .before .before .before .before .before .fits .delivered))
+delivered-is : (c : tie.After-above-zero2) → c .above-zero2 .result ≡ above (at-delivered c .args .delivered)
+delivered-is c = c .above-zero2 .ensures ∙ ap above (toZ-ofZ (at-delivered c .fits .delivered))
 
-taken-is : (c : tie.After-above-zero3) → c .above-zero3 .result ≡ above (c .before .before .before .before .before .before .before .args .taken)
-taken-is c = c .above-zero3 .ensures ∙ ap above (toZ-ofZ (c .before .before .before .before .before .before .before .fits .taken))
+taken-is : (c : tie.After-above-zero3) → c .above-zero3 .result ≡ above (at-taken c .args .taken)
+taken-is c = c .above-zero3 .ensures ∙ ap above (toZ-ofZ (at-taken c .fits .taken))
 
 above-zero-requires : tie.Need-above-zero-requires
 above-zero-requires c κs = search needs
@@ -49,16 +59,15 @@ returns c =
     let t = c .before in
     let d = t .before .before in
     let o = d .before .before in
-    rw (
-      c .total-with4 .ensures,
-      t .before .total-with3 .ensures,
-      d .before .total-with2 .ensures,
-      o .before .total-with .ensures,
-      taken-is t,
-      delivered-is d,
-      sold-is o,
-      bought-is (o .before .before),
-    )
+    let b = o .before .before in
+    let totals = b .before .args .totals in
+    λ i.
+    record {
+      bought = (o .before .total-with .ensures ∙ ap (λ n. totals .bought + n) (bought-is b)) i;
+      sold = (d .before .total-with2 .ensures ∙ ap (λ n. totals .sold + n) (sold-is o)) i;
+      delivered = (t .before .total-with3 .ensures ∙ ap (λ n. totals .delivered + n) (delivered-is d)) i;
+      taken = (c .total-with4 .ensures ∙ ap (λ n. totals .taken + n) (taken-is t)) i;
+    }
 
 pub closed-totals-spec : {M : Type 1} → statement M
 closed-totals-spec =

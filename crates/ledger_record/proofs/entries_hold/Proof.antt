@@ -8,6 +8,7 @@ use mir.Facts.{toZ-ofZ}
 use mir.Syntax.{w64}
 use mir.Val.{SFits}
 use Rattle.terms.specs.declared.DirectionTerms.{DirectionTerms}
+use Rattle.ledger_record.specs.declared.Entries.{Entries}
 use Rattle.ledger_record.proofs.Entry.{HeldSoFar, begin, step, done}
 use Rattle.ledger_record.proofs.Rows.{noRow}
 use Rattle.ledger_record.proofs.entries_hold.Statement.{statement}
@@ -19,11 +20,14 @@ Inv-loop closed bounds starts scheds most rows holds₀ i₀ holds i = HeldSoFar
 abbrev μ-loop : tie.MeasureT-loop
 μ-loop closed bounds starts scheds most rows holds₀ i₀ holds i = 8 - i
 
+abbrev entries : tie.After-rows Inv-loop μ-loop → Entries
+entries c = c .before .before .before .before .before .before .before .args .entries
+
 -- the requirement that is read, and the start that is read off the row, are numbers of an `i64`
 abbrev at : tie.After-entry-holds-arg Inv-loop μ-loop → tie.At-loop Inv-loop μ-loop
 at c = c .before .before .before
 
-requirement-read : (c : tie.After-entry-holds-arg Inv-loop μ-loop) → SFits w64 (getD (at c .before .before .before .before .before .before .before .before .args .entries .starts) (at c .loop .i) (pos 0))
+requirement-read : (c : tie.After-entry-holds-arg Inv-loop μ-loop) → SFits w64 (getD (entries (at c .before) .starts) (at c .loop .i) (pos 0))
 requirement-read c = sfits-of (c .entry-holds-arg .given)
 
 start-read : (c : tie.After-struct-told Inv-loop μ-loop) → SFits w64 (getD (at (c .before) .before .before .direction-table .result .rows) (at (c .before) .loop .i) noRow .start)

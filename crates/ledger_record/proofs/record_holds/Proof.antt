@@ -7,6 +7,9 @@ use Rattle.ledger_record.proofs.Openings.{open-is}
 use Rattle.ledger_record.proofs.record_holds.Statement.{statement}
 use Rattle.ledger_record.proofs.record_holds.Tie as tie
 
+abbrev within-eight : tie.After-opening-answer → tie.Else1
+within-eight c = c .before .before .before .before .before .before .before
+
 returns : tie.Need-returns
 unfolding recordRule
 returns c = rw (lt-leb (c .before .args .given .closed) 8 (c .if1 .taken))
@@ -37,7 +40,7 @@ returns-2 c =
     let l = h .before in
     let i = l .before in
     let o = i .before in
-    let e = o .before .before .before .before .before .before .before in
+    let e = within-eight o in
     let g = e .before .args .given in
     rw (
       c .state-holds .ensures,
