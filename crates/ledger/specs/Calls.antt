@@ -46,7 +46,7 @@ floor r = need (r .terms .low) (r .low) (suc (r .closed))
 abbrev pub ceiling : Record → ℤ
 ceiling r = pos (r .size) -ℤ need (r .terms .high) (r .high) (suc (r .closed))
 
--- the floor, and what must stay free below the size, as natural numbers
+-- the floor, and what must stay free below the size; neither is above its direction's REV
 pub record NeedsAre (r : Record) (n : Needs) : Type 0 where
   pub floor-is : pos (n .low) ≡ floor r
   pub ceiling-is : pos (r .size) -ℤ pos (n .high) ≡ ceiling r
@@ -86,6 +86,7 @@ pub record Closing : Type 0 where
   pub delivered : ℤ
   pub taken : ℤ
 
+-- the closing of these arguments
 abbrev pub closingWith : ℤ → List ℕ → ℤ → ℤ → Closing
 closingWith purchase readings delivered taken =
     record { purchase = purchase; readings = readings; delivered = delivered; taken = taken }

@@ -201,7 +201,7 @@ entriesAfter d h =
 abbrev pub total : (Closing → ℕ) → History → ℕ
 total f h = sum (map f h)
 
--- purchases above 0 are bought, those below 0 sold
+-- what they bought, sold, delivered and took
 unfoldable pub totalsAfter : History → Totals
 totalsAfter h =
     record {
