@@ -151,14 +151,11 @@ pub fn value(numbers: Numbers, at: usize) -> i64 {
 }
 
 // Whether the values from a place on, before the end, are from 0 to the most.
-pub fn are_within(numbers: Numbers, from: usize, end: usize, most: u64) -> bool {
+pub fn are_within(numbers: Numbers, from: usize, end: usize, most: i64) -> bool {
     let mut at = from;
     while at < end {
         let z = value(numbers, at);
-        if 0 < signed::below_zero(z) {
-            return false;
-        }
-        if most < signed::above_zero(z) {
+        if (z < 0) | (most < z) {
             return false;
         }
         at += 1;
