@@ -299,15 +299,8 @@ pub fn close_period(
     let PeriodEnergy::Bounds { low, high } = bounds else {
         return refuse(CloseAnswer::Readings, given);
     };
-    let settled = settle(
-        given.state,
-        given.size,
-        low,
-        high,
-        purchase,
-        delivered,
-        taken,
-    );
+    let size = given.size;
+    let settled = settle(given.state, size, low, high, purchase, delivered, taken);
     let Settled::To(new) = settled else {
         return refuse(CloseAnswer::Energy, given);
     };

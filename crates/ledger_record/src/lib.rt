@@ -89,7 +89,7 @@ fn first_out(t: Terms, size: u32, first: u32) -> bool
     (first < DirectionTerms::of(t.low).rev) | (size < first + DirectionTerms::of(t.high).rev)
 }
 
-// Refusals 1, 2, 5, 3, 4, the first of which the cause holds.
+// The first of the causes 1, 2, 5, 3, 4 that holds.
 fn opening_answer(t: Terms, curves: Curves, size: u32, first: u32) -> OpenAnswer
     ensures { λ r. ⌜ answerWith r (firstRecord t curves size first) ≡ opening t curves size first ⌝ }
 {
@@ -303,7 +303,7 @@ pub fn next_start(q: Quantities, closed: u32, entries: Entries) -> i64
     row.start
 }
 
-// The state against the size and both starts.
+// The state against the size, and against the start of each direction.
 fn state_passes(state: u32, size: u32, low_start: i64, high_start: i64) -> bool
     ensures { λ r. ⌜ r ≡ passesBoth state size «low_start» «high_start» ⌝ }
 {
