@@ -64,22 +64,17 @@ totalsRule r = totalsWithin (r .closed) (r .totals) (sum (r .low .bounds)) (sum 
 unfoldable pub nextStart : Quantities → ℕ → Entries → ℤ
 nextStart q closed x = cond (leb closed 8) (startAt q x (suc closed)) (pos 0)
 
--- the state lies in 0..size and passes both directions at their starts; state is export energy, and import energy is size less
--- state
+-- the state lies in 0..size and passes both directions at these starts; state is export energy, and import energy is size
+-- less state
 abbrev pub passesBoth : ℕ → ℕ → ℤ → ℤ → Bool
 passesBoth state size low high = leb state size && leZ low (pos state) && leZ high (pos size -ℤ pos state)
 
--- the state fits first state and totals
-abbrev pub fitsTotals : ℕ → ℕ → Totals → Bool
-fitsTotals state first totals =
-    eqZ (pos state)
-    (pos first +ℤ pos (totals .bought) -ℤ pos (totals .sold) -ℤ pos (totals .delivered) +ℤ pos (totals .taken))
-
--- the state passes both directions at the next start, and fits first state and totals
+-- it passes them at the next start, and fits first state and totals
 unfoldable pub stateRule : Record → Bool
 stateRule r =
     passesBoth (r .state) (r .size) (nextStart (r .terms .low) (r .closed) (r .low)) (nextStart (r .terms .high) (r .closed) (r .high))
-    && fitsTotals (r .state) (r .first) (r .totals)
+    && eqZ (pos (r .state))
+    (pos (r .first) +ℤ pos (r .totals .bought) -ℤ pos (r .totals .sold) -ℤ pos (r .totals .delivered) +ℤ pos (r .totals .taken))
 
 -- periods closed 0 to 8, and what opening checks holds
 unfoldable pub recordRule : Record → Bool

@@ -1,9 +1,11 @@
 // The ledger's record, its rule and opening.
 ghost use mathlib.Core.Path.{_≡_};
+ghost use Prim.Native.Nat.{_+_};
+ghost use lib.Dec.{eqb};
 ghost use Rattle.common.specs.Answer.{numberOf, isGiven, orBlank};
 ghost use Rattle.common.specs.Lists.{sum};
 ghost use Rattle.ledger_record.specs.Opening.{quantityOut, sizeOut, firstOut, firstRecord, blankRecord, opening, answerWith, answerOf};
-ghost use Rattle.ledger_record.specs.Rule.{entryHolds, entriesRule, totalsWithin, totalsRule, nextStart, passesBoth, fitsTotals, stateRule, recordRule};
+ghost use Rattle.ledger_record.specs.Rule.{entryHolds, entriesRule, totalsWithin, totalsRule, nextStart, passesBoth, stateRule, recordRule};
 use energy::curve::Curve;
 use energy::curve::Curves;
 use energy::curve::Point;
@@ -315,7 +317,7 @@ fn state_passes(state: u32, size: u32, low_start: i64, high_start: i64) -> bool
 
 // state = first + bought − sold − delivered + taken
 fn balances(state: u32, first: u32, totals: Totals) -> bool
-    ensures { λ r. ⌜ r ≡ fitsTotals state first totals ⌝ }
+    ensures { λ r. ⌜ r ≡ eqb (state + (totals .sold + totals .delivered)) (first + totals .bought + totals .taken) ⌝ }
 {
     let lost = totals.sold as u64 + totals.delivered as u64;
     state as u64 + lost == first as u64 + totals.bought as u64 + totals.taken as u64

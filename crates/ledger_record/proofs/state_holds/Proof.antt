@@ -1,9 +1,13 @@
 -- `ledger_record::state_holds` meets its contract. Assumes nothing.
 use borrow.Author.Needs.{needs, sfits-of}
 use mir.Facts.{toZ-ofZ}
+use Rattle.signed.proofs.Orders.{balance}
 use Rattle.ledger_record.specs.Rule.{stateRule}
 use Rattle.ledger_record.proofs.state_holds.Statement.{statement}
 use Rattle.ledger_record.proofs.state_holds.Tie as tie
+
+abbrev start : tie.After-next-start → tie.Start
+start c = c .before .before .before .before .before .before .before
 
 next-start-requires : tie.Need-next-start-requires
 next-start-requires c κs = search needs
@@ -22,8 +26,11 @@ unfolding stateRule
 returns c =
     let p = c .before in
     let n = p .before in
+    let g = start (n .before) .args .given in
+    let t = g .totals in
     rw (
       c .balances .ensures,
+      balance (g .state) (g .first) (t .bought) (t .sold) (t .delivered) (t .taken),
       p .state-passes .ensures,
       toZ-ofZ {z = n .next-start2 .result} (sfits-of (n .next-start2 .ok)),
       toZ-ofZ {z = n .before .next-start .result} (sfits-of (n .before .next-start .ok)),
