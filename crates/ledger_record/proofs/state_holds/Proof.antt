@@ -6,8 +6,8 @@ use Rattle.ledger_record.specs.Rule.{stateRule}
 use Rattle.ledger_record.proofs.state_holds.Statement.{statement}
 use Rattle.ledger_record.proofs.state_holds.Tie as tie
 
-abbrev start : tie.After-next-start → tie.Start
-start c = c .before .before .before .before .before .before .before
+abbrev start : tie.After-totals → tie.Start
+start c = c .before .before .before .before .before .before
 
 next-start-requires : tie.Need-next-start-requires
 next-start-requires c κs = search needs
@@ -26,7 +26,7 @@ unfolding stateRule
 returns c =
     let p = c .before in
     let n = p .before in
-    let g = start (n .before) .args .given in
+    let g = start (n .before .before) .args .given in
     let t = g .totals in
     rw (
       c .balances .ensures,
