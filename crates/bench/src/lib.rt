@@ -1,6 +1,7 @@
 // What the timing program in bench/ links: period energy over numbers, with the stock curves chosen at run time, and closings.
 ghost use mathlib.Core.Path.{_≡_};
 ghost use Prim.Native.Nat.{_+_, _*_};
+ghost use Rattle.ledger.specs.Calls.{closingWith};
 ghost use Rattle.bench.specs.Bench.{quantities, curveOf, curvesOf, periodNumber, openedRecord, closings, recordNumber};
 use energy::curve::Curve;
 use energy::curve::Curves;
@@ -92,7 +93,7 @@ pub extern "C" fn bench_closings(
     delivered: i64,
     taken: i64,
 ) -> u64
-    ensures { λ r. ⌜ r ≡ recordNumber (closings count (openedRecord mw size first) (record { purchase = purchase; readings = now (readings .entry); delivered = delivered; taken = taken })) ⌝ }
+    ensures { λ r. ⌜ r ≡ recordNumber (closings count (openedRecord mw size first) (closingWith purchase (now (readings .entry)) delivered taken)) ⌝ }
 {
     let mut after = opened_record(mw, size, first);
     let mut i: u32 = 0;

@@ -22,12 +22,12 @@ use Rattle.energy.specs.Period.{lowDeviation, highDeviation}
 use Rattle.energy.specs.declared.curve.Curves.{Curves}
 use Rattle.energy.proofs.Laws.{bound-most}
 use Rattle.ledger_record.specs.Opening.{openingCauses}
-use Rattle.ledger_record.specs.Rule.{totalsRule, stateRule, recordRule}
+use Rattle.ledger_record.specs.Rule.{totalsRule, nextStart, stateRule, recordRule}
 use Rattle.ledger_record.specs.declared.Record.{Record}
-use Rattle.ledger_record.proofs.Openings.{Fits, opening-fits}
+use Rattle.ledger_record.proofs.Openings.{LetThrough, let-through}
 use Rattle.ledger.specs.Calls.{Closing, newState, unusable, settles, closedRecord, recordClosed, low, high}
 use Rattle.ledger.specs.Calls as calls
-use Rattle.ledger.specs.Promise.{History, Battery, extend, bounds, startAfter, stateAfter, NoCause, total, battery, entriesAfter, recordAfter}
+use Rattle.ledger.specs.Promise.{History, Battery, extend, bounds, startAfter, stateAfter, NoCause, total, battery, entriesAfter, totalsAfter, recordAfter}
 use Rattle.ledger.proofs.Eight.{eight-sum}
 use Rattle.ledger.proofs.Entries.{start-here, need-here, entries-keep, entries-next}
 use Rattle.ledger.proofs.History as History′
@@ -56,11 +56,11 @@ module _ (t : Terms) (curves : Curves) (size first : ℕ) (no-number : clear (op
   abbrev b : Battery
   b = battery t curves size first
 
-  fits : Fits t curves size first
-  fits = opening-fits t curves size first no-number
+  opens : LetThrough t curves size first
+  opens = let-through t curves size first no-number
 
   -- ---- the totals of a history
-  pub record Totals (h : History) : Type 0 where
+  pub record TotalsKept (h : History) : Type 0 where
     pub bought-most : total bought h ≤ 10000000 * length h
     pub sold-most : total sold h ≤ 10000000 * length h
     pub delivered-most : total delivered h ≤ sum (bounds (b .low) h)
@@ -70,7 +70,7 @@ module _ (t : Terms) (curves : Curves) (size first : ℕ) (no-number : clear (op
     -- the state is first state + bought − sold − delivered + taken
     pub adds-up : above (stateAfter b h) + total sold h + total delivered h ≡ first + below (stateAfter b h) + total bought h + total taken h
 
-  pub no-totals : Totals []
+  pub no-totals : TotalsKept []
   unfolding sum stateAfter
   no-totals =
       record {
@@ -83,19 +83,19 @@ module _ (t : Terms) (curves : Curves) (size first : ℕ) (no-number : clear (op
         adds-up = omega arith;
       }
 
-  pub totals-next : (h : History) (c : Closing) → Passes b h → Totals h → NoCause b h c → Totals (extend h c)
+  pub totals-next : (h : History) (c : Closing) → Passes b h → TotalsKept h → NoCause b h c → TotalsKept (extend h c)
   totals-next h c v w o =
       let p = c .purchase in
       let yes = accepts-true b h p (no-cause-accepts b h c o) in
       let longer = length-append h (c ∷ []) in
       let is = state-next b h c in
       record {
-        bought-most = omega (arith, whole, v .in-size, w .bought-most, fits .size-most, one-sided p, sum-next bought h c);
-        sold-most = omega (arith, whole, v .in-size, w .sold-most, fits .size-most, one-sided p, sum-next sold h c);
+        bought-most = omega (arith, whole, v .in-size, w .bought-most, opens .size-most, one-sided p, sum-next bought h c);
+        sold-most = omega (arith, whole, v .in-size, w .sold-most, opens .size-most, one-sided p, sum-next sold h c);
         delivered-most = omega (arith, whole, o .possible .delivered-most, w .delivered-most, one-sided (c .delivered), sum-next delivered h c, sum-next (λ (c : Closing). b .low .bound (c .readings)) h c);
         taken-most = omega (arith, whole, o .possible .taken-most, w .taken-most, one-sided (c .taken), sum-next taken h c, sum-next (λ (c : Closing). b .high .bound (c .readings)) h c);
-        low-bounds = rw map-append (most-next (500 * Q (t .low)) (bounds (b .low) h) (b .low .bound (c .readings)) (w .low-bounds) (bound-most (t .low) curves (fits .curves-hold) lowDeviation (c .readings) (o .possible .good)));
-        high-bounds = rw map-append (most-next (500 * Q (t .high)) (bounds (b .high) h) (b .high .bound (c .readings)) (w .high-bounds) (bound-most (t .high) curves (fits .curves-hold) highDeviation (c .readings) (o .possible .good)));
+        low-bounds = rw map-append (most-next (500 * Q (t .low)) (bounds (b .low) h) (b .low .bound (c .readings)) (w .low-bounds) (bound-most (t .low) curves (opens .curves-hold) lowDeviation (c .readings) (o .possible .good)));
+        high-bounds = rw map-append (most-next (500 * Q (t .high)) (bounds (b .high) h) (b .high .bound (c .readings)) (w .high-bounds) (bound-most (t .high) curves (opens .curves-hold) highDeviation (c .readings) (o .possible .good)));
         adds-up = omega (arith, whole, o .possible .delivered-least, o .possible .taken-least, w .adds-up, new-is b h c, ap above is, ap below is, one-sided (c .delivered), one-sided (c .taken), sum-next bought h c, sum-next sold h c, sum-next delivered h c, sum-next taken h c);
       }
 
@@ -108,9 +108,9 @@ module _ (t : Terms) (curves : Curves) (size first : ℕ) (no-number : clear (op
     state-is = same (pos (above (stateAfter b h))) (stateAfter b h) (omega (arith, whole, v .in-size .0, one-sided (stateAfter b h)))
 
     -- ---- it keeps the record rule
-    module _ (w : Totals h) where
+    module _ (w : TotalsKept h) where
       totals-keep : totalsRule r ≡ true
-      unfolding totalsRule recordAfter entriesAfter
+      unfolding totalsRule recordAfter totalsAfter entriesAfter
       totals-keep =
           rw (
             eight-sum (bounds (b .low) h),
@@ -131,10 +131,11 @@ module _ (t : Terms) (curves : Curves) (size first : ℕ) (no-number : clear (op
           (omega (arith, w .adds-up, integers.sum (pos first) (pos (total bought h)), less x (pos (total sold h)), less y (pos (total delivered h)), integers.sum z (pos (total taken h))))
 
       state-keeps : stateRule r ≡ true
-      unfolding stateRule recordAfter startAfter
+      unfolding stateRule nextStart recordAfter totalsAfter startAfter
       state-keeps =
           rw (
             state-is,
+            le-leb (length h) 8 (v .eight),
             start-here (t .low) (b .low .bound) h (suc (length h)),
             start-here (t .high) (b .high .bound) h (suc (length h)),
             true-leZ (v .low-passes),
@@ -179,7 +180,7 @@ module _ (t : Terms) (curves : Curves) (size first : ℕ) (no-number : clear (op
 
     -- ---- a closing that is carried out gives the record of the history with it
     pub closed-is : (c : Closing) → NoCause b h c → recordClosed r c ≡ recordAfter t curves size first (extend h c)
-    unfolding closedRecord recordAfter
+    unfolding closedRecord recordAfter totalsAfter
     closed-is c o =
         λ i.
         record {
@@ -191,10 +192,12 @@ module _ (t : Terms) (curves : Curves) (size first : ℕ) (no-number : clear (op
           closed = sym (length-append h (c ∷ [])) i;
           low = entries-next (t .low) (b .low .bound) h c (o .before-eight) i;
           high = entries-next (t .high) (b .high .bound) h c (o .before-eight) i;
-          bought = sym (sum-next bought h c) i;
-          sold = sym (sum-next sold h c) i;
-          delivered = sym (sum-next delivered h c) i;
-          taken = sym (sum-next taken h c) i;
+          totals = record {
+            bought = sym (sum-next bought h c) i;
+            sold = sym (sum-next sold h c) i;
+            delivered = sym (sum-next delivered h c) i;
+            taken = sym (sum-next taken h c) i;
+          };
         }
       where
         new-state : above (newState (pos (above (stateAfter b h))) c) ≡ above (stateAfter b (extend h c))

@@ -1,14 +1,13 @@
 -- A direction's entries after the closings carried out: they keep the record rule, and one more closing adds its own.
 -- Assumes nothing.
 use mathlib.Core.Path.{_≡_, refl, sym, ap, _∙_}
-use mathlib.Core.Bool.{true, _&&_}
+use mathlib.Core.Bool.{true, false}
 use mathlib.Core.List.{List, [], _∷_, map, map-append}
 use Prim.Native.Nat.{ℕ, suc, _+_, _-_, _*_, _≤_, _<_}
 use native.Mathlib.Numerals.{add-one}
 use native.Mathlib.Omega.{arith}
 use native.Mathlib.Decide.{decLe}
 use borrow.Author.Tests.{le-leb, lt-leb, eq-eqb}
-use lib.Dec.{eqb}
 use lib.IntN.{pos, _+ℤ_}
 use lib.ListN.{length, getD, set, length-append, length-map, List·getD-eq-default}
 use Rattle.common.specs.Periods.{periodsTo, ofPeriod}
@@ -19,8 +18,9 @@ use Rattle.terms.specs.Terms.{Q, REV, ER}
 use Rattle.terms.specs.declared.Quantities.{Quantities}
 use Rattle.requirement.specs.Requirement.{start, sched, back}
 use Rattle.requirement.proofs.Laws.{start-local, sched-local}
-use Rattle.ledger_record.specs.Rule.{startAt, schedAt, backAt, notes, entryRule, entriesRule}
+use Rattle.ledger_record.specs.Rule.{startAt, schedAt, backAt, entryRule, entriesRule}
 use Rattle.ledger_record.specs.declared.Entries.{Entries}
+use Rattle.ledger_record.proofs.Entry.{heldIf}
 use Rattle.ledger.specs.Calls.{Closing, need, closedEntries}
 use Rattle.ledger.specs.Promise.{History, Direction, extend, bounds, startAfter, backAfter, needAfter, eightOf, entriesAfter}
 use Rattle.ledger.proofs.Directions.{kept}
@@ -74,9 +74,10 @@ module _ (q : Quantities) (bound : List ℕ → ℕ) (h : History) where
     bounds-at = rw at-is (eight-at 0 (bounds d h) k)
 
     -- of a closed period they are those of the bounds
-    closed-is : k < n → notes x (suc k) (startAt q x (suc k)) (schedAt q x (suc k)) ≡ true
-    closed-is l =
+    closed-is : getD (bounds d h) k 0 ≤ 500 * Q q → k < n → heldIf q x (suc k) true ≡ true
+    closed-is most l =
         rw (
+          le-leb (ofPeriod (x .bounds) (suc k)) (500 * Q q) (omega (arith, bounds-at)),
           start-here (suc k),
           sched-here (suc k),
           starts-at,
@@ -88,7 +89,7 @@ module _ (q : Quantities) (bound : List ℕ → ℕ) (h : History) where
         )
 
     -- of a period not closed they are 0
-    open-is : n ≤ k → eqb (ofPeriod (x .bounds) (suc k)) 0 && notes x (suc k) (pos 0) 0 ≡ true
+    open-is : n ≤ k → heldIf q x (suc k) false ≡ true
     open-is l =
         let long = length-map h (λ (c : Closing). bound (c .readings)) in
         let l₁ : length (bounds d h) ≤ k = omega arith in
@@ -109,7 +110,7 @@ module _ (q : Quantities) (bound : List ℕ → ℕ) (h : History) where
   entries-keep most = every-period (entryRule q n x) 8 (λ k l. by k (decLe (suc k) n))
     where
       by : (k : ℕ) → Dec (suc k ≤ n) → entryRule q n x (suc k) ≡ true
-      by k (yes l) = rw (le-leb (suc k) n l, le-leb (ofPeriod (x .bounds) (suc k)) (500 * Q q) (omega (arith, bounds-at k, most k))) (closed-is k l)
+      by k (yes l) = rw (le-leb (suc k) n l) (closed-is k (most k) l)
       by k (no l) = rw (lt-leb (suc k) n (omega arith)) (open-is k (omega arith))
 
   -- ---- one more closing

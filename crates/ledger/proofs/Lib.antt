@@ -4,7 +4,6 @@ pub mod Directions
 pub mod Eight
 pub mod Entries
 pub mod History
-pub mod NextRow
 pub mod Promise
 pub mod Settling
 pub mod Usable

@@ -20,35 +20,35 @@ use Rattle.energy.specs.declared.curve.Curves.{Curves}
 use Rattle.energy.proofs.Laws.{still-good, still-bound}
 use Rattle.ledger_record.specs.Opening.{openingCauses, firstRecord, opening}
 use Rattle.ledger_record.specs.declared.Record.{Record}
-use Rattle.ledger_record.proofs.Openings.{Fits, opening-fits}
+use Rattle.ledger_record.proofs.Openings.{LetThrough, let-through}
 use Rattle.ledger.specs.Calls.{Closing, newState, unusable, checking, proposing, closingCauses, closing, recordClosed, settles, low, high}
 use Rattle.ledger.specs.Calls as calls
-use Rattle.ledger.specs.Promise.{Call, check, propose, close, after, run, Gives, History, done, carriedOut, Battery, NoCause, Open, Promise, battery, stateAfter, entriesAfter, recordAfter, Demand3}
+use Rattle.ledger.specs.Promise.{Call, check, propose, close, after, run, Gives, History, done, carriedOut, Battery, NoCause, Open, Promise, battery, stateAfter, entriesAfter, totalsAfter, recordAfter, Demand3}
 use Rattle.ledger.proofs.History.{Opened, Still, Passes, AllPass, all-passes, first-all, next-all, accepts, proposal, settled, no-cause, no-cause-accepts, no-cause-settled, proposal-nearest, safe, refused-exactly, refused-fails}
-use Rattle.ledger.proofs.Agreement.{Totals, no-totals, totals-next, rule-holds, usable-is, accepts-are, proposal-is, settles-are, closed-is}
+use Rattle.ledger.proofs.Agreement.{TotalsKept, no-totals, totals-next, rule-holds, usable-is, accepts-are, proposal-is, settles-are, closed-is}
 
 module _ (t : Terms) (curves : Curves) (size first : ℕ) (no-number : clear (openingCauses t curves size first) ≡ true) where
   abbrev b : Battery
   b = battery t curves size first
 
-  fits : Fits t curves size first
-  fits = opening-fits t curves size first no-number
+  opens : LetThrough t curves size first
+  opens = let-through t curves size first no-number
 
   opened : Opened b
-  opened = record { fits = fits .size-least; low = fits .first-least; high = fits .first-most }
+  opened = record { fits = opens .size-least; low = opens .first-least; high = opens .first-most }
 
   -- 3,600 readings of 50,000
   still : Still b
   still = record {
     readings = replicate 3600 50000;
     good = still-good;
-    low = still-bound (t .low) curves (fits .curves-hold) lowDeviation refl 3600;
-    high = still-bound (t .high) curves (fits .curves-hold) highDeviation refl 3600;
+    low = still-bound (t .low) curves (opens .curves-hold) lowDeviation refl 3600;
+    high = still-bound (t .high) curves (opens .curves-hold) highDeviation refl 3600;
   }
 
   record Agrees (r : Record) (h : History) : Type 0 where
     all-pass : AllPass b h
-    totals : Totals t curves size first no-number h
+    totals : TotalsKept t curves size first no-number h
     is-record : r ≡ recordAfter t curves size first h
 
   module _ {r : Record} {h : History} (a : Agrees r h) where
@@ -213,7 +213,7 @@ module _ (t : Terms) (curves : Curves) (size first : ℕ) (no-number : clear (op
 
   -- ---- from the record that opening returned
   at-first : Agrees (firstRecord t curves size first) []
-  unfolding recordAfter entriesAfter stateAfter periodsTo sum
+  unfolding recordAfter totalsAfter entriesAfter stateAfter periodsTo sum
   at-first = record { all-pass = first-all b opened; totals = no-totals t curves size first no-number; is-record = refl }
 
   kept : (calls : List Call) → Demand3 t curves size first (firstRecord t curves size first) calls

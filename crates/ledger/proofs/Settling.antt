@@ -9,10 +9,30 @@ use Rattle.common.proofs.Tests.{both-true}
 use Rattle.signed.specs.Sign.{above, below, within}
 use Rattle.signed.proofs.Whole.{whole, one-sided, sum, less}
 use Rattle.signed.proofs.Orders.{within-true, true-within, false-leZ}
-use Rattle.ledger.specs.Calls as calls
-use Rattle.ledger.specs.Calls.{moved}
+use Rattle.ledger.specs.Calls.{moved, settles}
 
-module _ (state size low high : ℕ) (p d k : ℤ) (e : within (pos 0) d (pos low) && within (pos 0) k (pos high) ≡ true) where
+-- delivered and taken are not negative, and at most their bounds
+pub record InBounds (low high : ℕ) (d k : ℤ) : Type 0 where
+  pub tests : within (pos 0) d (pos low) && within (pos 0) k (pos high) ≡ true
+  pub delivered-least : below d ≡ 0
+  pub delivered-most : above d ≤ low
+  pub taken-least : below k ≡ 0
+  pub taken-most : above k ≤ high
+
+pub in-bounds : (low high : ℕ) (d k : ℤ) → within (pos 0) d (pos low) && within (pos 0) k (pos high) ≡ true → InBounds low high d k
+in-bounds low high d k e =
+    let w = both-true (within (pos 0) d (pos low)) (within (pos 0) k (pos high)) e in
+    let x = within-true (pos 0) d (pos low) (w .0) in
+    let y = within-true (pos 0) k (pos high) (w .1) in
+    record {
+      tests = e;
+      delivered-least = omega (arith, whole, x, one-sided d);
+      delivered-most = omega (arith, whole, x, one-sided d);
+      taken-least = omega (arith, whole, y, one-sided k);
+      taken-most = omega (arith, whole, y, one-sided k);
+    }
+
+module _ {low high : ℕ} {d k : ℤ} (b : InBounds low high d k) (state size : ℕ) (p : ℤ) where
   abbrev pub new : ℤ
   new = moved (pos state) p d k
 
@@ -22,27 +42,19 @@ module _ (state size low high : ℕ) (p d k : ℤ) (e : within (pos 0) d (pos lo
   abbrev pub goes : ℕ
   goes = below p + above d
 
-  -- delivered and taken are not negative, and at most their bounds
-  pub bounded : (below d ≡ 0) × (above d ≤ low) × (below k ≡ 0) × (above k ≤ high)
-  bounded =
-      let w = both-true (within (pos 0) d (pos low)) (within (pos 0) k (pos high)) e in
-      let x = within-true (pos 0) d (pos low) (w .0) in
-      let y = within-true (pos 0) k (pos high) (w .1) in
-      (omega (arith, whole, x, one-sided d), omega (arith, whole, x, one-sided d), omega (arith, whole, y, one-sided k), omega (arith, whole, y, one-sided k))
-
   parts : above new + goes ≡ comes + below new
   parts =
       let s = pos state +ℤ p in
-      omega (arith, bounded, sum (pos state) p, less s d, sum (s -ℤ d) k)
+      omega (arith, b, sum (pos state) p, less s d, sum (s -ℤ d) k)
 
-  pub below-empty : comes < goes → calls.settles low high size d k new ≡ false
-  below-empty h = rw (e, false-leZ {a = pos 0} {b = new} (omega (arith, whole, parts, one-sided new)))
+  pub below-empty : comes < goes → settles low high size d k new ≡ false
+  below-empty h = rw (b .tests, false-leZ {a = pos 0} {b = new} (omega (arith, whole, parts, one-sided new)))
 
-  pub above-full : goes ≤ comes → size < comes - goes → calls.settles low high size d k new ≡ false
-  above-full l h = rw (e, false-leZ {a = new} {b = pos size} (omega (arith, whole, parts, one-sided new))) (and-false (leZ (pos 0) new))
+  pub above-full : goes ≤ comes → size < comes - goes → settles low high size d k new ≡ false
+  above-full l h = rw (b .tests, false-leZ {a = new} {b = pos size} (omega (arith, whole, parts, one-sided new))) (and-false (leZ (pos 0) new))
 
-  pub settles : goes ≤ comes → comes - goes ≤ size → calls.settles low high size d k new ≡ true
-  settles l h = rw (e, true-within (pos 0) new (pos size) (omega (arith, whole, parts, one-sided new)) (omega (arith, whole, parts, one-sided new)))
+  pub in-size : goes ≤ comes → comes - goes ≤ size → settles low high size d k new ≡ true
+  in-size l h = rw (b .tests, true-within (pos 0) new (pos size) (omega (arith, whole, parts, one-sided new)) (omega (arith, whole, parts, one-sided new)))
 
   pub new-is : goes ≤ comes → above new ≡ comes - goes
   new-is l = omega (arith, parts, one-sided new)

@@ -1,7 +1,8 @@
 -- Paper 01, "Ledger": checking, proposing and closing, each as its whole answer for any record. Assumes nothing.
+use mathlib.Core.Path.{_≡_}
 use mathlib.Core.Bool.{Bool, not, cond, _&&_, _||_}
 use mathlib.Core.List.{List, [], _∷_}
-use Prim.Native.Nat.{ℕ, suc, _+_}
+use Prim.Native.Nat.{ℕ, suc, _+_, _≤_, _<_, _^_}
 use lib.Dec.{eqb}
 use lib.IntN.{ℤ, pos, _+ℤ_, _-ℤ_}
 use lib.ListN.{set}
@@ -15,7 +16,11 @@ use Rattle.requirement.specs.Requirement.{sched, start}
 use Rattle.energy.specs.Period.{goodReadings, lowBound, highBound}
 use Rattle.ledger_record.specs.Rule.{startAt, backAt, recordRule}
 use Rattle.ledger_record.specs.declared.Entries.{Entries}
+use Rattle.ledger_record.specs.declared.Totals.{Totals}
 use Rattle.ledger_record.specs.declared.Record.{Record}
+use Rattle.ledger.specs.declared.Needs.{Needs}
+use Rattle.ledger.specs.declared.Settled.{Settled}
+use Rattle.ledger.specs.declared.Settled.the-variants as settlements
 use Rattle.ledger.specs.declared.CheckAnswer.{CheckAnswer}
 use Rattle.ledger.specs.declared.CheckAnswer.the-variants as checks
 use Rattle.ledger.specs.declared.ProposeAnswer.{ProposeAnswer}
@@ -40,6 +45,13 @@ floor r = need (r .terms .low) (r .low) (suc (r .closed))
 
 abbrev pub ceiling : Record → ℤ
 ceiling r = pos (r .size) -ℤ need (r .terms .high) (r .high) (suc (r .closed))
+
+-- the floor, and what must stay free below the size; neither is above its direction's REV
+pub record NeedsAre (r : Record) (n : Needs) : Type 0 where
+  pub floor-is : pos (n .low) ≡ floor r
+  pub ceiling-is : pos (r .size) -ℤ pos (n .high) ≡ ceiling r
+  pub low-most : n .low ≤ REV (r .terms .low)
+  pub high-most : n .high ≤ REV (r .terms .high)
 
 -- accepted exactly when floor ≤ state + p ≤ ceiling
 unfoldable pub accepts : Record → ℤ → Bool
@@ -74,6 +86,11 @@ pub record Closing : Type 0 where
   pub delivered : ℤ
   pub taken : ℤ
 
+-- the closing of these arguments
+abbrev pub closingWith : ℤ → List ℕ → ℤ → ℤ → Closing
+closingWith purchase readings delivered taken =
+    record { purchase = purchase; readings = readings; delivered = delivered; taken = taken }
+
 -- new state = state + p − delivered + taken
 abbrev pub moved : ℤ → ℤ → ℤ → ℤ → ℤ
 moved state p delivered taken = state +ℤ p -ℤ delivered +ℤ taken
@@ -88,6 +105,10 @@ settles low high size delivered taken new =
     && within (pos 0) taken (pos high)
     && within (pos 0) new (pos size)
 
+-- the new state, where the closing settles
+abbrev pub settling : ℕ → ℕ → ℕ → ℤ → ℤ → ℤ → Settled
+settling low high size delivered taken new = cond (settles low high size delivered taken new) (settlements.To (above new)) settlements.Not
+
 -- a direction's entries with one period more: its bound, its start and its schedule
 unfoldable pub closedEntries : Quantities → Entries → ℕ → ℕ → Entries
 closedEntries q x closed bound =
@@ -97,7 +118,24 @@ closedEntries q x closed bound =
       scheds = set (x .scheds) closed (sched (ER q) (ofPeriod (set (x .bounds) closed bound)) (suc closed));
     }
 
--- one period more is closed; purchases above 0 are bought, those below 0 sold
+-- purchases above 0 are bought, those below 0 sold
+abbrev pub closedTotals : Totals → ℤ → ℤ → ℤ → Totals
+closedTotals t p delivered taken =
+    record {
+      bought = t .bought + above p;
+      sold = t .sold + below p;
+      delivered = t .delivered + above delivered;
+      taken = t .taken + above taken;
+    }
+
+-- each total with one more closing is a u32
+pub record TotalsFit (t : Totals) (p delivered taken : ℤ) : Type 0 where
+  pub bought-fits : t .bought + above p < 2 ^ 32
+  pub sold-fits : t .sold + below p < 2 ^ 32
+  pub delivered-fits : t .delivered + above delivered < 2 ^ 32
+  pub taken-fits : t .taken + above taken < 2 ^ 32
+
+-- one period more is closed
 unfoldable pub closedRecord : Record → ℕ → ℕ → ℕ → ℤ → ℤ → ℤ → Record
 closedRecord r low high new p delivered taken =
     record {
@@ -109,10 +147,7 @@ closedRecord r low high new p delivered taken =
       closed = r .closed + 1;
       low = closedEntries (r .terms .low) (r .low) (r .closed) low;
       high = closedEntries (r .terms .high) (r .high) (r .closed) high;
-      bought = r .bought + above p;
-      sold = r .sold + below p;
-      delivered = r .delivered + above delivered;
-      taken = r .taken + above taken;
+      totals = closedTotals (r .totals) p delivered taken;
     }
 
 module _ (r : Record) (c : Closing) where
@@ -140,21 +175,21 @@ module _ (r : Record) (c : Closing) where
 
 -- ---- the number and values of each case of the code's answers
 
-abbrev pub checkedOf : CheckAnswer → Answer Unit
-checkedOf checks.Accepted = given tt
-checkedOf checks.Unusable = refused 10
-checkedOf checks.Purchase = refused 8
+abbrev pub checkAnswerOf : CheckAnswer → Answer Unit
+checkAnswerOf checks.Accepted = given tt
+checkAnswerOf checks.Unusable = refused 10
+checkAnswerOf checks.Purchase = refused 8
 
-abbrev pub proposedOf : ProposeAnswer → Answer ℤ
-proposedOf (proposes.Purchase p) = given p
-proposedOf proposes.Unusable = refused 10
+abbrev pub proposeAnswerOf : ProposeAnswer → Answer ℤ
+proposeAnswerOf (proposes.Purchase p) = given p
+proposeAnswerOf proposes.Unusable = refused 10
 
-abbrev pub numbered : {A : Type 0} → CloseAnswer → A → Answer A
-numbered closes.Closed a = given a
-numbered closes.Unusable a = refused 10
-numbered closes.Purchase a = refused 8
-numbered closes.Readings a = refused 6
-numbered closes.Energy a = refused 9
+abbrev pub closeAnswerWith : {A : Type 0} → CloseAnswer → A → Answer A
+closeAnswerWith closes.Closed a = given a
+closeAnswerWith closes.Unusable a = refused 10
+closeAnswerWith closes.Purchase a = refused 8
+closeAnswerWith closes.Readings a = refused 6
+closeAnswerWith closes.Energy a = refused 9
 
-abbrev pub closedOf : Closed → Answer Record
-closedOf c = numbered (c .answer) (c .«record»)
+abbrev pub closeAnswerOf : Closed → Answer Record
+closeAnswerOf c = closeAnswerWith (c .answer) (c .«record»)

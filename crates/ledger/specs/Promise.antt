@@ -28,6 +28,7 @@ use Rattle.energy.specs.Period.{goodReadings, lowBound, highBound}
 use Rattle.energy.specs.declared.curve.Curves.{Curves}
 use Rattle.ledger_record.specs.Rule.{recordRule}
 use Rattle.ledger_record.specs.declared.Entries.{Entries}
+use Rattle.ledger_record.specs.declared.Totals.{Totals}
 use Rattle.ledger_record.specs.declared.Record.{Record}
 use Rattle.ledger.specs.Calls.{Closing, newState, checking, proposing, closing}
 
@@ -196,8 +197,19 @@ entriesAfter d h =
       scheds = eightOf 0 (map (sched (d .ER) (ofPeriod (bounds d h))) (periodsTo (length h)));
     }
 
+-- the sum over the closings carried out
 abbrev pub total : (Closing → ℕ) → History → ℕ
 total f h = sum (map f h)
+
+-- what they bought, sold, delivered and took
+unfoldable pub totalsAfter : History → Totals
+totalsAfter h =
+    record {
+      bought = total (λ (c : Closing). above (c .purchase)) h;
+      sold = total (λ (c : Closing). below (c .purchase)) h;
+      delivered = total (λ (c : Closing). above (c .delivered)) h;
+      taken = total (λ (c : Closing). above (c .taken)) h;
+    }
 
 -- ---- at what a unit opens with
 module _ (t : Terms) (curves : Curves) (size first : ℕ) where
@@ -223,10 +235,7 @@ module _ (t : Terms) (curves : Curves) (size first : ℕ) where
         closed = length h;
         low = entriesAfter (battery .low) h;
         high = entriesAfter (battery .high) h;
-        bought = total (λ (c : Closing). above (c .purchase)) h;
-        sold = total (λ (c : Closing). below (c .purchase)) h;
-        delivered = total (λ (c : Closing). above (c .delivered)) h;
-        taken = total (λ (c : Closing). above (c .taken)) h;
+        totals = totalsAfter h;
       }
 
   -- after any list of calls on the record r₀ that opening returned

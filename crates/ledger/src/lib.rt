@@ -1,15 +1,15 @@
 // The ledger: checking, proposing and closing, over the record of ledger_record.
 ghost use mathlib.Core.Path.{_≡_};
-ghost use mathlib.Core.Bool.{cond};
 ghost use Prim.Native.Nat.{suc, _+_, _≤_, _<_, _^_};
 ghost use lib.IntN.{pos, _+ℤ_, _-ℤ_};
 ghost use Rattle.common.specs.Answer.{numberOf, orBlank};
-ghost use Rattle.signed.specs.Sign.{above, below, within};
+ghost use Rattle.signed.specs.Sign.{within};
 ghost use Rattle.terms.specs.Terms.{REV};
-ghost use Rattle.ledger.specs.Calls.{need, floor, ceiling, accepts, toward, moved, settles, closedEntries, closedRecord, unusable, checking, checkedOf, proposing, proposedOf, closing, numbered, closedOf};
+ghost use Rattle.ledger.specs.Calls.{need, NeedsAre, accepts, toward, moved, settling, closedEntries, TotalsFit, closedTotals, closedRecord, unusable, checking, checkAnswerOf, proposing, proposeAnswerOf, closingWith, closing, closeAnswerWith, closeAnswerOf};
 use energy::period::PeriodEnergy;
 use ledger_record::Entries;
 use ledger_record::Record;
+use ledger_record::Totals;
 use terms::Quantities;
 
 pub enum CheckAnswer {
@@ -74,7 +74,7 @@ struct Needs {
 
 fn needs_of(given: Record) -> Needs
     requires { ⌜ given .closed < 8 ⌝ }
-    ensures { λ r. ⌜ (pos (r .low) ≡ floor given) × (pos (given .size) -ℤ pos (r .high) ≡ ceiling given) × (r .low ≤ REV (given .terms .low)) × (r .high ≤ REV (given .terms .high)) ⌝ }
+    ensures { λ r. ⌜ NeedsAre given r ⌝ }
 {
     let t = given.terms;
     let low = t.low;
@@ -107,7 +107,7 @@ fn is_accepted(given: Record, purchase: i64) -> bool
 
 // Checks a purchase, of which a negative one is a sale: refusals 10, 8.
 pub fn check_purchase(given: Record, purchase: i64) -> CheckAnswer
-    ensures { λ r. ⌜ checkedOf r ≡ checking given purchase ⌝ }
+    ensures { λ r. ⌜ checkAnswerOf r ≡ checking given purchase ⌝ }
 {
     if is_unusable(given) {
         return CheckAnswer::Unusable;
@@ -121,7 +121,7 @@ pub fn check_purchase(given: Record, purchase: i64) -> CheckAnswer
 // ---- proposing
 
 // What brings the state to low or more and to size less high or less.
-fn nearest(low: u64, state: u32, size: u32, high: u64) -> i64
+fn toward(low: u64, state: u32, size: u32, high: u64) -> i64
     requires { ⌜ (low ≤ 2 ^ 44) × (high ≤ 2 ^ 44) ⌝ }
     ensures { λ r. ⌜ r ≡ toward (pos low) (pos state) (pos size -ℤ pos high) ⌝ }
 {
@@ -138,13 +138,13 @@ fn nearest(low: u64, state: u32, size: u32, high: u64) -> i64
 
 // Proposes the accepted purchase nearest 0: refusal 10.
 pub fn propose_purchase(given: Record) -> ProposeAnswer
-    ensures { λ r. ⌜ proposedOf r ≡ proposing given ⌝ }
+    ensures { λ r. ⌜ proposeAnswerOf r ≡ proposing given ⌝ }
 {
     if is_unusable(given) {
         return ProposeAnswer::Unusable;
     }
     let n = needs_of(given);
-    ProposeAnswer::Purchase(nearest(n.low, given.state, given.size, n.high))
+    ProposeAnswer::Purchase(toward(n.low, given.state, given.size, n.high))
 }
 
 // ---- closing
@@ -158,7 +158,7 @@ enum Settled {
 fn within_bound(energy: i64, bound: u32) -> bool
     ensures { λ r. ⌜ r ≡ within (pos 0) energy (pos bound) ⌝ }
 {
-    (signed::below_zero(energy) == 0) & (signed::above_zero(energy) <= bound as u64)
+    (0 <= energy) & (energy <= bound as i64)
 }
 
 fn settle(
@@ -170,7 +170,7 @@ fn settle(
     delivered: i64,
     taken: i64,
 ) -> Settled
-    ensures { λ r. ⌜ r ≡ cond (settles low high size delivered taken (moved (pos state) purchase delivered taken)) (Settled.To (above (moved (pos state) purchase delivered taken))) Settled.Not ⌝ }
+    ensures { λ r. ⌜ r ≡ settling low high size delivered taken (moved (pos state) purchase delivered taken) ⌝ }
 {
     if !(within_bound(delivered, low) & within_bound(taken, high)) {
         return Settled::Not;
@@ -210,11 +210,24 @@ fn closed_entries(q: Quantities, entries: Entries, closed: u32, bound: u32) -> E
 }
 
 // A total with what a closing adds to it.
-fn total(a: u32, b: u64) -> u32
-    requires { ⌜ a + b < 2 ^ 32 ⌝ }
-    ensures { λ r. ⌜ r ≡ a + b ⌝ }
+fn total_with(total: u32, more: u64) -> u32
+    requires { ⌜ total + more < 2 ^ 32 ⌝ }
+    ensures { λ r. ⌜ r ≡ total + more ⌝ }
 {
-    a + b as u32
+    total + more as u32
+}
+
+// The totals with one more period closed.
+fn closed_totals(totals: Totals, purchase: i64, delivered: i64, taken: i64) -> Totals
+    requires { ⌜ TotalsFit totals purchase delivered taken ⌝ }
+    ensures { λ r. ⌜ r ≡ closedTotals totals purchase delivered taken ⌝ }
+{
+    Totals {
+        bought: total_with(totals.bought, signed::above_zero(purchase)),
+        sold: total_with(totals.sold, signed::below_zero(purchase)),
+        delivered: total_with(totals.delivered, signed::above_zero(delivered)),
+        taken: total_with(totals.taken, signed::above_zero(taken)),
+    }
 }
 
 // The record with one more period closed.
@@ -227,7 +240,7 @@ fn closed_record(
     delivered: i64,
     taken: i64,
 ) -> Record
-    requires { ⌜ (given .closed < 8) × (given .bought + above purchase < 2 ^ 32) × (given .sold + below purchase < 2 ^ 32) × (given .delivered + above delivered < 2 ^ 32) × (given .taken + above taken < 2 ^ 32) ⌝ }
+    requires { ⌜ (given .closed < 8) × TotalsFit (given .totals) purchase delivered taken ⌝ }
     ensures { λ r. ⌜ r ≡ closedRecord given low high new purchase delivered taken ⌝ }
 {
     let t = given.terms;
@@ -237,6 +250,7 @@ fn closed_record(
     let low_entries = given.low;
     let high_entries = given.high;
     let closed = given.closed;
+    let totals = given.totals;
     Record {
         terms: t,
         curves,
@@ -246,10 +260,7 @@ fn closed_record(
         closed: closed + 1,
         low: closed_entries(low_q, low_entries, closed, low),
         high: closed_entries(high_q, high_entries, closed, high),
-        bought: total(given.bought, signed::above_zero(purchase)),
-        sold: total(given.sold, signed::below_zero(purchase)),
-        delivered: total(given.delivered, signed::above_zero(delivered)),
-        taken: total(given.taken, signed::above_zero(taken)),
+        totals: closed_totals(totals, purchase, delivered, taken),
     }
 }
 
@@ -271,7 +282,8 @@ pub fn close_period(
     delivered: i64,
     taken: i64,
 ) -> Closed
-    ensures { λ r. ⌜ (closedOf r ≡ closing given (record { purchase = purchase; readings = now (readings .entry); delivered = delivered; taken = taken })) × (r .«record» ≡ orBlank given (closing given (record { purchase = purchase; readings = now (readings .entry); delivered = delivered; taken = taken }))) ⌝ }
+    ensures answer { λ r. ⌜ closeAnswerOf r ≡ closing given (closingWith purchase (now (readings .entry)) delivered taken) ⌝ }
+    ensures beside { λ r. ⌜ r .«record» ≡ orBlank given (closing given (closingWith purchase (now (readings .entry)) delivered taken)) ⌝ }
 {
     if is_unusable(given) {
         return refuse(CloseAnswer::Unusable, given);
@@ -287,15 +299,8 @@ pub fn close_period(
     let PeriodEnergy::Bounds { low, high } = bounds else {
         return refuse(CloseAnswer::Readings, given);
     };
-    let settled = settle(
-        given.state,
-        given.size,
-        low,
-        high,
-        purchase,
-        delivered,
-        taken,
-    );
+    let size = given.size;
+    let settled = settle(given.state, size, low, high, purchase, delivered, taken);
     let Settled::To(new) = settled else {
         return refuse(CloseAnswer::Energy, given);
     };
@@ -308,7 +313,7 @@ pub fn close_period(
 // ---- the numbers of the answers, 0 where nothing is refused
 
 pub fn check_number(answer: CheckAnswer) -> u32
-    ensures { λ r. ⌜ r ≡ numberOf (checkedOf answer) ⌝ }
+    ensures { λ r. ⌜ r ≡ numberOf (checkAnswerOf answer) ⌝ }
 {
     match answer {
         CheckAnswer::Accepted => 0,
@@ -318,7 +323,7 @@ pub fn check_number(answer: CheckAnswer) -> u32
 }
 
 pub fn propose_number(answer: ProposeAnswer) -> u32
-    ensures { λ r. ⌜ r ≡ numberOf (proposedOf answer) ⌝ }
+    ensures { λ r. ⌜ r ≡ numberOf (proposeAnswerOf answer) ⌝ }
 {
     match answer {
         ProposeAnswer::Purchase(_) => 0,
@@ -327,7 +332,7 @@ pub fn propose_number(answer: ProposeAnswer) -> u32
 }
 
 pub fn close_number(answer: CloseAnswer) -> u32
-    ensures { λ r. ⌜ r ≡ numberOf {A = Unit} (numbered answer tt) ⌝ }
+    ensures { λ r. ⌜ r ≡ numberOf {A = Unit} (closeAnswerWith answer tt) ⌝ }
 {
     match answer {
         CloseAnswer::Closed => 0,

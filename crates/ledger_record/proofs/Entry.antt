@@ -1,46 +1,52 @@
 -- The loop of `entries_hold`: after i turns, whether the entries of the periods 1 to i keep the rule. Assumes nothing.
 use mathlib.Core.Path.{_≡_, refl, ap, _∙_}
-use mathlib.Core.Bool.{Bool, true, cond, _&&_}
+use mathlib.Core.Bool.{Bool, true, _&&_}
 use mathlib.Core.List.{List}
 use Prim.Native.Nat.{ℕ, suc, _+_, _-_, _*_, _≤_, _<_}
 use native.Mathlib.Numerals.{add-one}
 use native.Mathlib.Omega.{arith}
-use lib.Dec.{leb, ltb, eqb}
+use lib.Dec.{ltb}
 use lib.IntN.{ℤ, pos}
 use lib.ListN.{getD}
 use Rattle.common.specs.Lists.{every}
 use Rattle.common.specs.Periods.{periodsTo, ofPeriod}
-use Rattle.common.proofs.Periods.{period-at, every-next}
-use Rattle.signed.specs.Sign.{eqZ}
+use Rattle.common.proofs.Periods.{every-next}
 use Rattle.terms.specs.Terms.{Q, REV, ER}
 use Rattle.terms.specs.declared.Quantities.{Quantities}
 use Rattle.requirement.specs.Requirement.{sched, rowOf, tableOf}
 use Rattle.requirement.specs.declared.Row.{Row}
 use Rattle.requirement.specs.declared.Table.{Table}
-use Rattle.ledger_record.specs.Rule.{startAt, schedAt, entryRule, entriesRule}
+use Rattle.ledger_record.specs.Rule.{startAt, schedAt, entryHolds, entryRule, entriesRule}
 use Rattle.ledger_record.specs.declared.Entries.{Entries}
+use Rattle.ledger_record.proofs.Rows.{row-is}
+
+-- the rule of an entry, by whether its period is closed
+abbrev pub heldIf : Quantities → Entries → ℕ → Bool → Bool
+heldIf q x i closed =
+    entryHolds closed (500 * Q q)
+    (ofPeriod (x .bounds) i) (getD (x .starts) (i - 1) (pos 0)) (ofPeriod (x .scheds) i)
+    (startAt q x i) (schedAt q x i)
 
 module _ (closed most : ℕ) (bounds : List ℕ) (starts : List ℤ) (scheds : List ℕ) (rows : List Row) where
   -- what a turn tests, of period k + 1
   abbrev pub tested : Row → ℕ → Bool
   tested d k =
-      cond (ltb k closed)
-      (leb (getD bounds k 0) most && (eqZ (getD starts k (pos 0)) (getD rows k d .start) && eqb (getD scheds k 0) (getD rows k d .sched)))
-      (eqb (getD bounds k 0) 0 && (eqZ (getD starts k (pos 0)) (pos 0) && eqb (getD scheds k 0) 0))
+      entryHolds (ltb k closed) most (getD bounds k 0) (getD starts k (pos 0)) (getD scheds k 0)
+      (getD rows k d .start) (getD rows k d .sched)
 
   -- a rule that agrees with the tests
   abbrev pub Agrees : (ℕ → Bool) → Type 0
   Agrees rule = (d : Row) (k : ℕ) → k < 8 → rule (suc k) ≡ tested d k
 
-  pub record So (holds : Bool) (i : ℕ) : Type 0 where
+  pub record HeldSoFar (holds : Bool) (i : ℕ) : Type 0 where
     pub within : i ≤ 8
     pub so-far : (rule : ℕ → Bool) → Agrees rule → holds ≡ every rule (periodsTo i)
 
-  pub begin : So true 0
+  pub begin : HeldSoFar true 0
   unfolding every periodsTo
   begin = record { within = omega arith; so-far = λ rule a. refl }
 
-  pub step : {holds : Bool} {i : ℕ} → So holds i → i < 8 → (d : Row) (t : Bool) → t ≡ tested d i → So (holds && t) (i + 1)
+  pub step : {holds : Bool} {i : ℕ} → HeldSoFar holds i → i < 8 → (d : Row) (t : Bool) → t ≡ tested d i → HeldSoFar (holds && t) (i + 1)
   step {holds} {i} s h d t e =
       record {
         within = omega arith;
@@ -53,10 +59,10 @@ pub rule-agrees : (q : Quantities) (closed most : ℕ) (x : Entries) (t : Table)
 unfolding entryRule startAt schedAt tableOf rowOf
 rule-agrees q closed most x t m e d k h =
     let p : suc k - 1 ≡ k = omega arith in
-    rw (e, m, period-at (rowOf (REV q) (ER q) (ofPeriod (x .bounds))) 8 k d h, p)
+    rw (row-is q (x .bounds) t e d k h, m, p)
 
 pub done : {closed most : ℕ} {x : Entries} {t : Table} {holds : Bool} {i : ℕ} (q : Quantities)
-    → So closed most (x .bounds) (x .starts) (x .scheds) (t .rows) holds i → 8 ≤ i → most ≡ 500 * Q q → t ≡ tableOf (REV q) (ER q) (x .bounds)
+    → HeldSoFar closed most (x .bounds) (x .starts) (x .scheds) (t .rows) holds i → 8 ≤ i → most ≡ 500 * Q q → t ≡ tableOf (REV q) (ER q) (x .bounds)
     → holds ≡ entriesRule q closed x
 unfolding entriesRule
 done {closed} {most} {x} {t} {i} q s h m e =

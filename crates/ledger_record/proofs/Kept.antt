@@ -1,12 +1,11 @@
 -- What a record that keeps the record rule tells of its numbers. Assumes nothing.
 use mathlib.Core.Path.{_≡_}
-use mathlib.Core.Bool.{Bool, true, false, cond, _&&_}
-use Prim.Native.Nat.{ℕ, suc, _-_, _*_, _≤_}
+use mathlib.Core.Bool.{Bool, true, false, _&&_}
+use Prim.Native.Nat.{ℕ, suc, _-_, _*_, _≤_, _<_}
 use native.Mathlib.Omega.{arith}
 use borrow.Author.Tests.{leb-true, eqb-true, ltb-false}
-use lib.Dec.{leb, eqb}
-use lib.IntN.{pos}
-use lib.ListN.{length, getD}
+use lib.Dec.{leb}
+use lib.ListN.{length}
 use Rattle.common.specs.Answer.{clear}
 use Rattle.common.specs.Lists.{sum}
 use Rattle.common.specs.Periods.{ofPeriod}
@@ -16,32 +15,29 @@ use Rattle.common.proofs.Tests.{both-true}
 use Rattle.terms.specs.Terms.{Q, above1000}
 use Rattle.terms.specs.declared.Quantities.{Quantities}
 use Rattle.ledger_record.specs.Opening.{openingCauses}
-use Rattle.ledger_record.specs.Rule.{startAt, schedAt, notes, entryRule, entriesRule, totalsRule, stateRule, recordRule}
+use Rattle.ledger_record.specs.Rule.{entryRule, entriesRule, totalsRule, stateRule, recordRule}
 use Rattle.ledger_record.specs.declared.Entries.{Entries}
 use Rattle.ledger_record.specs.declared.Record.{Record}
-use Rattle.ledger_record.proofs.Openings.{Fits, opening-fits}
+use Rattle.ledger_record.proofs.Entry.{heldIf}
+use Rattle.ledger_record.proofs.Openings.{LetThrough, let-through}
 
 -- a bound is at most 500 × Q, whether its period is closed or not
-bound-most : (q : Quantities) (closed : ℕ) (x : Entries) (k : ℕ) → entryRule q closed x (suc k) ≡ true → getD (x .bounds) k 0 ≤ 500 * Q q
-unfolding entryRule
-bound-most q closed x k e =
-    let p : suc k - 1 ≡ k = omega arith in
-    rw p at (by (leb (suc k) closed) e)
+pub bound-most : (q : Quantities) (closed : ℕ) (x : Entries) (k : ℕ) → k < 8 → entriesRule q closed x ≡ true → ofPeriod (x .bounds) (suc k) ≤ 500 * Q q
+unfolding entriesRule entryRule
+bound-most q closed x k h e = by (leb (suc k) closed) (period-holds (entryRule q closed x) 8 k e h)
   where
-    by : (c : Bool)
-        → cond c
-        (leb (ofPeriod (x .bounds) (suc k)) (500 * Q q) && notes x (suc k) (startAt q x (suc k)) (schedAt q x (suc k)))
-        (eqb (ofPeriod (x .bounds) (suc k)) 0 && notes x (suc k) (pos 0) 0)
-        ≡ true → ofPeriod (x .bounds) (suc k) ≤ 500 * Q q
-    by true e = leb-true (ofPeriod (x .bounds) (suc k)) (500 * Q q) (both-true (leb (ofPeriod (x .bounds) (suc k)) (500 * Q q)) (notes x (suc k) (startAt q x (suc k)) (schedAt q x (suc k))) e .0)
+    b : ℕ
+    b = ofPeriod (x .bounds) (suc k)
+
+    by : (c : Bool) → heldIf q x (suc k) c ≡ true → b ≤ 500 * Q q
+    by true e = leb-true b (500 * Q q) (both-true _ _ e .0)
     by false e =
-        let z = eqb-true (ofPeriod (x .bounds) (suc k)) 0 (both-true (eqb (ofPeriod (x .bounds) (suc k)) 0) (notes x (suc k) (pos 0) 0) e .0) in
+        let z = eqb-true b 0 (both-true _ _ e .0) in
         omega arith
 
 sum-most : (q : Quantities) (closed : ℕ) (x : Entries) → length (x .bounds) ≡ 8 → above1000 q ≡ false → entriesRule q closed x ≡ true → sum (x .bounds) ≤ 4000000
-unfolding entriesRule
 sum-most q closed x long few e =
-    let each = sum-entries (500 * Q q) (x .bounds) (λ i l. bound-most q closed x i (period-holds (entryRule q closed x) 8 i e (omega arith))) in
+    let each = sum-entries (500 * Q q) (x .bounds) (λ i l. let p : suc i - 1 ≡ i = omega arith in rw p at (bound-most q closed x i (omega arith) e)) in
     omega (arith, rw long at each, ltb-false 1000 (Q q) few)
 
 module _ (r : Record) where
@@ -77,35 +73,35 @@ module _ (r : Record) where
   pub closed-most : recordRule r ≡ true → r .closed ≤ 8
   closed-most e = leb-true (r .closed) 8 (parts e .closed-holds)
 
-  pub fits : recordRule r ≡ true → Fits (r .terms) (r .curves) (r .size) (r .first)
-  fits e = opening-fits (r .terms) (r .curves) (r .size) (r .first) (parts e .opening-holds)
+  pub opened : recordRule r ≡ true → LetThrough (r .terms) (r .curves) (r .size) (r .first)
+  opened e = let-through (r .terms) (r .curves) (r .size) (r .first) (parts e .opening-holds)
 
   -- where the arrays have eight entries, the totals are in range
   pub record Kept : Type 0 where
-    pub bought-most : r .bought ≤ 10000000 * r .closed
-    pub sold-most : r .sold ≤ 10000000 * r .closed
-    pub delivered-most : r .delivered ≤ 4000000
-    pub taken-most : r .taken ≤ 4000000
+    pub bought-most : r .totals .bought ≤ 10000000 * r .closed
+    pub sold-most : r .totals .sold ≤ 10000000 * r .closed
+    pub delivered-most : r .totals .delivered ≤ 4000000
+    pub taken-most : r .totals .taken ≤ 4000000
     pub state-most : r .state ≤ r .size
 
   pub kept : length (r .low .bounds) ≡ 8 → length (r .high .bounds) ≡ 8 → recordRule r ≡ true → Kept
   unfolding totalsRule stateRule
   kept low-long high-long e =
       let p = parts e in
-      let f = fits e in
-      let bought-in = leb (r .bought) (10000000 * r .closed) in
-      let sold-in = leb (r .sold) (10000000 * r .closed) in
-      let delivered-in = leb (r .delivered) (sum (r .low .bounds)) in
-      let t = both-true (bought-in && sold-in && delivered-in) (leb (r .taken) (sum (r .high .bounds))) (p .totals-hold) in
+      let f = opened e in
+      let bought-in = leb (r .totals .bought) (10000000 * r .closed) in
+      let sold-in = leb (r .totals .sold) (10000000 * r .closed) in
+      let delivered-in = leb (r .totals .delivered) (sum (r .low .bounds)) in
+      let t = both-true (bought-in && sold-in && delivered-in) (leb (r .totals .taken) (sum (r .high .bounds))) (p .totals-hold) in
       let d = both-true (bought-in && sold-in) delivered-in (t .0) in
       let b = both-true bought-in sold-in (d .0) in
       let s₃ = both-true (leb (r .state) (r .size) && _ && _) _ (p .state-holds) in
       let s₂ = both-true (leb (r .state) (r .size) && _) _ (s₃ .0) in
       let s₁ = both-true (leb (r .state) (r .size)) _ (s₂ .0) in
       record {
-        bought-most = leb-true (r .bought) (10000000 * r .closed) (b .0);
-        sold-most = leb-true (r .sold) (10000000 * r .closed) (b .1);
-        delivered-most = omega (arith, leb-true (r .delivered) (sum (r .low .bounds)) (d .1), sum-most (r .terms .low) (r .closed) (r .low) low-long (f .low-quantity) (p .low-holds));
-        taken-most = omega (arith, leb-true (r .taken) (sum (r .high .bounds)) (t .1), sum-most (r .terms .high) (r .closed) (r .high) high-long (f .high-quantity) (p .high-holds));
+        bought-most = leb-true (r .totals .bought) (10000000 * r .closed) (b .0);
+        sold-most = leb-true (r .totals .sold) (10000000 * r .closed) (b .1);
+        delivered-most = omega (arith, leb-true (r .totals .delivered) (sum (r .low .bounds)) (d .1), sum-most (r .terms .low) (r .closed) (r .low) low-long (f .low-quantity) (p .low-holds));
+        taken-most = omega (arith, leb-true (r .totals .taken) (sum (r .high .bounds)) (t .1), sum-most (r .terms .high) (r .closed) (r .high) high-long (f .high-quantity) (p .high-holds));
         state-most = leb-true (r .state) (r .size) (s₁ .0);
       }

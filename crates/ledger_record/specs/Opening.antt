@@ -13,6 +13,7 @@ use Rattle.energy.specs.Curve.{blank, curvesRule}
 use Rattle.energy.specs.declared.curve.Curve.{Curve}
 use Rattle.energy.specs.declared.curve.Curves.{Curves}
 use Rattle.ledger_record.specs.declared.Entries.{Entries}
+use Rattle.ledger_record.specs.declared.Totals.{Totals}
 use Rattle.ledger_record.specs.declared.Record.{Record}
 use Rattle.ledger_record.specs.declared.OpenAnswer.{OpenAnswer}
 use Rattle.ledger_record.specs.declared.OpenAnswer.the-variants as answers
@@ -46,6 +47,9 @@ openingCauses t curves size first =
 abbrev pub noEntries : Entries
 noEntries = record { bounds = replicate 8 0; starts = replicate 8 (pos 0); scheds = replicate 8 0 }
 
+abbrev pub noTotals : Totals
+noTotals = record { bought = 0; sold = 0; delivered = 0; taken = 0 }
+
 -- no period closed
 abbrev pub firstRecord : Terms → Curves → ℕ → ℕ → Record
 firstRecord t curves size first =
@@ -58,10 +62,7 @@ firstRecord t curves size first =
       closed = 0;
       low = noEntries;
       high = noEntries;
-      bought = 0;
-      sold = 0;
-      delivered = 0;
-      taken = 0;
+      totals = noTotals;
     }
 
 unfoldable pub opening : Terms → Curves → ℕ → ℕ → Answer Record
@@ -80,13 +81,13 @@ blankRecord =
     0 0
 
 -- the number, or what is given, of each case of the code's answer
-abbrev pub numbered : {A : Type 0} → OpenAnswer → A → Answer A
-numbered answers.Open a = given a
-numbered answers.Quantity a = refused 1
-numbered answers.Power a = refused 2
-numbered answers.Curve a = refused 5
-numbered answers.Size a = refused 3
-numbered answers.State a = refused 4
+abbrev pub answerWith : {A : Type 0} → OpenAnswer → A → Answer A
+answerWith answers.Open a = given a
+answerWith answers.Quantity a = refused 1
+answerWith answers.Power a = refused 2
+answerWith answers.Curve a = refused 5
+answerWith answers.Size a = refused 3
+answerWith answers.State a = refused 4
 
-abbrev pub openedOf : Opened → Answer Record
-openedOf o = numbered (o .answer) (o .«record»)
+abbrev pub answerOf : Opened → Answer Record
+answerOf o = answerWith (o .answer) (o .«record»)

@@ -13,6 +13,7 @@ use Rattle.terms.specs.Terms.{Q, REV, ER}
 use Rattle.terms.specs.declared.Quantities.{Quantities}
 use Rattle.requirement.specs.Requirement.{sched, back, start}
 use Rattle.ledger_record.specs.declared.Entries.{Entries}
+use Rattle.ledger_record.specs.declared.Totals.{Totals}
 use Rattle.ledger_record.specs.declared.Record.{Record}
 use Rattle.ledger_record.specs.Opening.{openingCauses}
 
@@ -27,16 +28,20 @@ schedAt q x i = sched (ER q) (ofPeriod (x .bounds)) i
 unfoldable pub backAt : Quantities → Entries → ℕ → ℕ
 backAt q x i = back (ER q) (ofPeriod (x .bounds)) i
 
--- the requirement and the schedule in the entries of period i
-abbrev pub notes : Entries → ℕ → ℤ → ℕ → Bool
-notes x i start sched = eqZ (getD (x .starts) (i - 1) (pos 0)) start && eqb (ofPeriod (x .scheds) i) sched
+-- a closed period has a bound of at most 500 × Q, `most`, and the requirement and schedule of the bounds, `start` and `sched`;
+-- entries of periods not closed are 0
+abbrev pub entryHolds : Bool → ℕ → ℕ → ℤ → ℕ → ℤ → ℕ → Bool
+entryHolds closed most bound requirement schedule start sched =
+    cond closed
+    (leb bound most && (eqZ requirement start && eqb schedule sched))
+    (eqb bound 0 && (eqZ requirement (pos 0) && eqb schedule 0))
 
--- bounds are at most 500 × Q; requirements and schedules are those of the bounds, and entries of periods not closed are 0
+-- the entries of period i
 unfoldable pub entryRule : Quantities → ℕ → Entries → ℕ → Bool
 entryRule q closed x i =
-    cond (leb i closed)
-    (leb (ofPeriod (x .bounds) i) (500 * Q q) && notes x i (startAt q x i) (schedAt q x i))
-    (eqb (ofPeriod (x .bounds) i) 0 && notes x i (pos 0) 0)
+    entryHolds (leb i closed) (500 * Q q)
+    (ofPeriod (x .bounds) i) (getD (x .starts) (i - 1) (pos 0)) (ofPeriod (x .scheds) i)
+    (startAt q x i) (schedAt q x i)
 
 unfoldable pub entriesRule : Quantities → ℕ → Entries → Bool
 entriesRule q closed x = every (entryRule q closed x) (periodsTo 8)
@@ -45,21 +50,31 @@ entriesRule q closed x = every (entryRule q closed x) (periodsTo 8)
 
 -- bought and sold are each at most 10,000,000 per period closed, delivered at most the sum of the low bounds, taken at most
 -- that of the high
-unfoldable pub totalsRule : Record → Bool
-totalsRule r =
-    leb (r .bought) (10000000 * r .closed)
-    && leb (r .sold) (10000000 * r .closed)
-    && leb (r .delivered) (sum (r .low .bounds))
-    && leb (r .taken) (sum (r .high .bounds))
+abbrev pub totalsWithin : ℕ → Totals → ℕ → ℕ → Bool
+totalsWithin closed totals low high =
+    leb (totals .bought) (10000000 * closed)
+    && leb (totals .sold) (10000000 * closed)
+    && leb (totals .delivered) low
+    && leb (totals .taken) high
 
--- the state lies in 0..size, passes both directions at the next start, and fits first state and totals;
--- state is export energy, and import energy is size less state
+unfoldable pub totalsRule : Record → Bool
+totalsRule r = totalsWithin (r .closed) (r .totals) (sum (r .low .bounds)) (sum (r .high .bounds))
+
+-- the next start, that of the period after the closed ones; 0 where more than eight are closed
+unfoldable pub nextStart : Quantities → ℕ → Entries → ℤ
+nextStart q closed x = cond (leb closed 8) (startAt q x (suc closed)) (pos 0)
+
+-- the state lies in 0..size and passes both directions at these starts; state is export energy, and import energy is size
+-- less state
+abbrev pub passesBoth : ℕ → ℕ → ℤ → ℤ → Bool
+passesBoth state size low high = leb state size && leZ low (pos state) && leZ high (pos size -ℤ pos state)
+
+-- it passes them at the next start, and fits first state and totals
 unfoldable pub stateRule : Record → Bool
 stateRule r =
-    leb (r .state) (r .size)
-    && leZ (startAt (r .terms .low) (r .low) (suc (r .closed))) (pos (r .state))
-    && leZ (startAt (r .terms .high) (r .high) (suc (r .closed))) (pos (r .size) -ℤ pos (r .state))
-    && eqZ (pos (r .state)) (pos (r .first) +ℤ pos (r .bought) -ℤ pos (r .sold) -ℤ pos (r .delivered) +ℤ pos (r .taken))
+    passesBoth (r .state) (r .size) (nextStart (r .terms .low) (r .closed) (r .low)) (nextStart (r .terms .high) (r .closed) (r .high))
+    && eqZ (pos (r .state))
+    (pos (r .first) +ℤ pos (r .totals .bought) -ℤ pos (r .totals .sold) -ℤ pos (r .totals .delivered) +ℤ pos (r .totals .taken))
 
 -- periods closed 0 to 8, and what opening checks holds
 unfoldable pub recordRule : Record → Bool

@@ -1,14 +1,11 @@
 // The ledger's record, its rule and opening.
 ghost use mathlib.Core.Path.{_≡_};
-ghost use mathlib.Core.Bool.{cond, _&&_};
-ghost use Prim.Native.Nat.{suc, _+_, _-_, _*_, _≤_};
-ghost use lib.Dec.{leb, eqb};
-ghost use lib.IntN.{pos};
-ghost use Rattle.common.specs.Answer.{numberOf, clear, orBlank};
+ghost use Prim.Native.Nat.{_+_};
+ghost use lib.Dec.{eqb};
+ghost use Rattle.common.specs.Answer.{numberOf, isGiven, orBlank};
 ghost use Rattle.common.specs.Lists.{sum};
-ghost use Rattle.signed.specs.Sign.{above, eqZ};
-ghost use Rattle.ledger_record.specs.Opening.{quantityOut, sizeOut, firstOut, openingCauses, firstRecord, blankRecord, opening, numbered, openedOf};
-ghost use Rattle.ledger_record.specs.Rule.{startAt, entriesRule, totalsRule, stateRule, recordRule};
+ghost use Rattle.ledger_record.specs.Opening.{quantityOut, sizeOut, firstOut, firstRecord, blankRecord, opening, answerWith, answerOf};
+ghost use Rattle.ledger_record.specs.Rule.{entryHolds, entriesRule, totalsWithin, totalsRule, nextStart, passesBoth, stateRule, recordRule};
 use energy::curve::Curve;
 use energy::curve::Curves;
 use energy::curve::Point;
@@ -24,6 +21,14 @@ pub struct Entries {
     pub scheds: [u64; 8],
 }
 
+// What was bought, sold, delivered and taken in the closed periods.
+pub struct Totals {
+    pub bought: u32,
+    pub sold: u32,
+    pub delivered: u32,
+    pub taken: u32,
+}
+
 // Nothing in it is trusted: each call answers for any bits.
 pub struct Record {
     pub terms: Terms,
@@ -34,10 +39,7 @@ pub struct Record {
     pub closed: u32,
     pub low: Entries,
     pub high: Entries,
-    pub bought: u32,
-    pub sold: u32,
-    pub delivered: u32,
-    pub taken: u32,
+    pub totals: Totals,
 }
 
 pub enum OpenAnswer {
@@ -89,13 +91,39 @@ fn first_out(t: Terms, size: u32, first: u32) -> bool
     (first < DirectionTerms::of(t.low).rev) | (size < first + DirectionTerms::of(t.high).rev)
 }
 
-// Whether none of the causes holds.
-fn opening_clear(t: Terms, curves: Curves, size: u32, first: u32) -> bool
-    ensures { λ r. ⌜ r ≡ clear (openingCauses t curves size first) ⌝ }
+// The first of the causes 1, 2, 5, 3, 4 that holds.
+fn opening_answer(t: Terms, curves: Curves, size: u32, first: u32) -> OpenAnswer
+    ensures { λ r. ⌜ answerWith r (firstRecord t curves size first) ≡ opening t curves size first ⌝ }
 {
-    !quantity_out(t)
-        & (!terms::limits_broken(t)
-            & (curves_hold(curves) & (!size_out(t, size) & !first_out(t, size, first))))
+    if quantity_out(t) {
+        return OpenAnswer::Quantity;
+    }
+    if terms::limits_broken(t) {
+        return OpenAnswer::Power;
+    }
+    if !curves_hold(curves) {
+        return OpenAnswer::Curve;
+    }
+    if size_out(t, size) {
+        return OpenAnswer::Size;
+    }
+    if first_out(t, size, first) {
+        return OpenAnswer::State;
+    }
+    OpenAnswer::Open
+}
+
+fn is_open(answer: OpenAnswer) -> bool
+    ensures { λ r. ⌜ r ≡ isGiven {A = Unit} (answerWith answer tt) ⌝ }
+{
+    match answer {
+        OpenAnswer::Open => true,
+        OpenAnswer::Quantity => false,
+        OpenAnswer::Power => false,
+        OpenAnswer::Curve => false,
+        OpenAnswer::Size => false,
+        OpenAnswer::State => false,
+    }
 }
 
 // No period closed.
@@ -116,10 +144,12 @@ fn first_record(terms: Terms, curves: Curves, size: u32, first: u32) -> Record
         closed: 0,
         low: none,
         high: none,
-        bought: 0,
-        sold: 0,
-        delivered: 0,
-        taken: 0,
+        totals: Totals {
+            bought: 0,
+            sold: 0,
+            delivered: 0,
+            taken: 0,
+        },
     }
 }
 
@@ -153,41 +183,20 @@ pub fn blank_record() -> Record
     first_record(t, curves, 0, 0)
 }
 
-fn refuse(answer: OpenAnswer) -> Opened
-    ensures { λ r. ⌜ r ≡ record { answer = answer; «record» = blankRecord } ⌝ }
-{
-    Opened {
-        answer,
-        record: blank_record(),
-    }
-}
-
 // Opens a record: refusals 1, 2, 5, 3, 4; a blank record stands beside a refusal.
 pub fn open_record(t: Terms, curves: Curves, size: u32, first: u32) -> Opened
-    ensures { λ r. ⌜ (openedOf r ≡ opening t curves size first) × (r .«record» ≡ orBlank blankRecord (opening t curves size first)) ⌝ }
+    ensures answer { λ r. ⌜ answerOf r ≡ opening t curves size first ⌝ }
+    ensures beside { λ r. ⌜ r .«record» ≡ orBlank blankRecord (opening t curves size first) ⌝ }
 {
-    let quantity = quantity_out(t);
-    let power = terms::limits_broken(t);
-    let curves_good = curves_hold(curves);
-    let size_wrong = size_out(t, size);
-    let first_wrong = first_out(t, size, first);
-    if quantity {
-        return refuse(OpenAnswer::Quantity);
-    }
-    if power {
-        return refuse(OpenAnswer::Power);
-    }
-    if !curves_good {
-        return refuse(OpenAnswer::Curve);
-    }
-    if size_wrong {
-        return refuse(OpenAnswer::Size);
-    }
-    if first_wrong {
-        return refuse(OpenAnswer::State);
+    let answer = opening_answer(t, curves, size, first);
+    if !is_open(answer) {
+        return Opened {
+            answer,
+            record: blank_record(),
+        };
     }
     Opened {
-        answer: OpenAnswer::Open,
+        answer,
         record: first_record(t, curves, size, first),
     }
 }
@@ -204,7 +213,7 @@ fn entry_holds(
     start: i64,
     sched: u64,
 ) -> bool
-    ensures { λ r. ⌜ r ≡ cond done (leb bound most && (eqZ requirement start && eqb schedule sched)) (eqb bound 0 && (eqZ requirement (pos 0) && eqb schedule 0)) ⌝ }
+    ensures { λ r. ⌜ r ≡ entryHolds done most bound requirement schedule start sched ⌝ }
 {
     if done {
         return (bound as u64 <= most) & ((requirement == start) & (schedule == sched));
@@ -253,22 +262,14 @@ fn sum_of(bounds: [u32; 8]) -> u64
 }
 
 // Bought and sold against the periods closed, delivered and taken against the sums of the bounds.
-fn totals_within(
-    closed: u32,
-    bought: u32,
-    sold: u32,
-    delivered: u32,
-    taken: u32,
-    low: u64,
-    high: u64,
-) -> bool
-    ensures { λ r. ⌜ r ≡ (leb bought (10000000 * closed) && leb sold (10000000 * closed) && leb delivered low && leb taken high) ⌝ }
+fn totals_within(closed: u32, totals: Totals, low: u64, high: u64) -> bool
+    ensures { λ r. ⌜ r ≡ totalsWithin closed totals low high ⌝ }
 {
     let most = 10_000_000 * closed as u64;
-    (bought as u64 <= most)
-        & (sold as u64 <= most)
-        & (delivered as u64 <= low)
-        & (taken as u64 <= high)
+    (totals.bought as u64 <= most)
+        & (totals.sold as u64 <= most)
+        & (totals.delivered as u64 <= low)
+        & (totals.taken as u64 <= high)
 }
 
 fn totals_hold(given: Record) -> bool
@@ -278,52 +279,51 @@ fn totals_hold(given: Record) -> bool
     let high = given.high;
     let low_bounds = low.bounds;
     let high_bounds = high.bounds;
+    let totals = given.totals;
     totals_within(
         given.closed,
-        given.bought,
-        given.sold,
-        given.delivered,
-        given.taken,
+        totals,
         sum_of(low_bounds),
         sum_of(high_bounds),
     )
 }
 
-// The part above 0 of the start after the closed periods.
-fn next_start(q: Quantities, closed: u32, entries: Entries) -> u64
-    requires { ⌜ closed ≤ 8 ⌝ }
-    ensures { λ r. ⌜ r ≡ above (startAt q entries (suc closed)) ⌝ }
+// The start after the closed periods, 0 where more than eight are closed.
+pub fn next_start(q: Quantities, closed: u32, entries: Entries) -> i64
+    ensures { λ r. ⌜ r ≡ nextStart q closed entries ⌝ }
 {
     let bounds = entries.bounds;
     let table = requirement::direction_table(q, bounds);
+    if 8 < closed {
+        return 0;
+    }
     if closed == 8 {
-        return signed::above_zero(table.start9);
+        return table.start9;
     }
     let rows = table.rows;
     let row = rows[closed as usize];
-    signed::above_zero(row.start)
+    row.start
 }
 
-// The state against the size and both starts, of which the parts above 0 are given.
-fn state_passes(state: u32, size: u32, low: u64, high: u64) -> bool
-    ensures { λ r. ⌜ r ≡ (leb state size && leb low state && leb high (size - state)) ⌝ }
+// The state against the size, and against the start of each direction.
+fn state_passes(state: u32, size: u32, low_start: i64, high_start: i64) -> bool
+    ensures { λ r. ⌜ r ≡ passesBoth state size «low_start» «high_start» ⌝ }
 {
     if size < state {
         return false;
     }
-    (low <= state as u64) & (high <= (size - state) as u64)
+    (low_start <= state as i64) & (high_start <= (size - state) as i64)
 }
 
 // state = first + bought − sold − delivered + taken
-fn balances(state: u32, first: u32, bought: u32, sold: u32, delivered: u32, taken: u32) -> bool
-    ensures { λ r. ⌜ r ≡ eqb (state + (sold + delivered)) (first + bought + taken) ⌝ }
+fn balances(state: u32, first: u32, totals: Totals) -> bool
+    ensures { λ r. ⌜ r ≡ eqb (state + (totals .sold + totals .delivered)) (first + totals .bought + totals .taken) ⌝ }
 {
-    let lost = sold as u64 + delivered as u64;
-    state as u64 + lost == first as u64 + bought as u64 + taken as u64
+    let lost = totals.sold as u64 + totals.delivered as u64;
+    state as u64 + lost == first as u64 + totals.bought as u64 + totals.taken as u64
 }
 
 fn state_holds(given: Record) -> bool
-    requires { ⌜ given .closed ≤ 8 ⌝ }
     ensures { λ r. ⌜ r ≡ stateRule given ⌝ }
 {
     let t = given.terms;
@@ -331,17 +331,11 @@ fn state_holds(given: Record) -> bool
     let high = t.high;
     let low_entries = given.low;
     let high_entries = given.high;
+    let totals = given.totals;
     let low_start = next_start(low, given.closed, low_entries);
     let high_start = next_start(high, given.closed, high_entries);
     state_passes(given.state, given.size, low_start, high_start)
-        & balances(
-            given.state,
-            given.first,
-            given.bought,
-            given.sold,
-            given.delivered,
-            given.taken,
-        )
+        & balances(given.state, given.first, totals)
 }
 
 // Whether a record keeps the record rule, whatever its bits.
@@ -358,7 +352,7 @@ pub fn record_holds(given: Record) -> bool
     let high = t.high;
     let low_entries = given.low;
     let high_entries = given.high;
-    opening_clear(t, curves, given.size, given.first)
+    is_open(opening_answer(t, curves, given.size, given.first))
         & entries_hold(low, closed, low_entries)
         & entries_hold(high, closed, high_entries)
         & totals_hold(given)
@@ -367,7 +361,7 @@ pub fn record_holds(given: Record) -> bool
 
 // The number of an opening's answer, 0 for an open record.
 pub fn open_number(answer: OpenAnswer) -> u32
-    ensures { λ r. ⌜ r ≡ numberOf {A = Unit} (numbered answer tt) ⌝ }
+    ensures { λ r. ⌜ r ≡ numberOf {A = Unit} (answerWith answer tt) ⌝ }
 {
     match answer {
         OpenAnswer::Open => 0,

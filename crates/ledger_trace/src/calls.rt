@@ -2,24 +2,18 @@
 use crate::show::write;
 use crate::show::write_line;
 use crate::show::write_number;
-use crate::show::write_record;
 use crate::show::write_signed;
-use crate::state::State;
-use crate::state::refuse;
-use crate::state::with_curves;
-use crate::state::with_record;
 use crate::text::Numbers;
-use crate::text::are_within;
 use crate::text::value;
 use crate::text::value_u16;
 use crate::text::value_u32;
 use energy::curve::Curve;
+use energy::curve::Curves;
 use energy::curve::Point;
 use ledger::ProposeAnswer;
+use ledger_record::Record;
 use terms::Quantities;
 use terms::Terms;
-
-const MOST: u64 = 4_294_967_295;
 
 fn point_at(numbers: Numbers, deviation: usize, share: usize) -> Point {
     Point {
@@ -49,23 +43,15 @@ fn curve_of(numbers: Numbers) -> Curve {
 }
 
 // curve S D1 H1 ..
-pub fn set_curve(numbers: Numbers, state: State) -> State {
-    let count = numbers.count;
-    if (count % 2 == 0) | (11 < count) {
-        return refuse(state);
-    }
-    let service = value_u32(numbers, 0);
-    if (service == 0) | !are_within(numbers, 0, 1, 3) | !are_within(numbers, 1, count, 65_535) {
-        return refuse(state);
-    }
-    let mut curves = state.curves;
+pub fn set_curve(numbers: Numbers, given: Curves) -> Curves {
+    let mut curves = given;
     let curve = curve_of(numbers);
-    match service {
+    match value_u32(numbers, 0) {
         1 => curves.dc = curve,
         2 => curves.dm = curve,
         _ => curves.dr = curve,
     }
-    with_curves(state, curves)
+    curves
 }
 
 // The quantities of the low direction of a line.
@@ -87,48 +73,29 @@ pub fn high_of(numbers: Numbers) -> Quantities {
 }
 
 // open LDC LDM LDR HDC HDM HDR EXPORT IMPORT SIZE FIRST
-pub fn open(numbers: Numbers, state: State) -> State {
-    if numbers.count != 10 {
-        return refuse(state);
-    }
-    if !(are_within(numbers, 0, 6, MOST) & are_within(numbers, 8, 10, MOST)) {
-        return refuse(state);
-    }
+pub fn open(numbers: Numbers, curves: Curves) -> Record {
     let t = Terms {
         low: low_of(numbers),
         high: high_of(numbers),
         export_limit: value(numbers, 6),
         import_limit: value(numbers, 7),
     };
-    let curves = state.curves;
     let size = value_u32(numbers, 8);
     let first = value_u32(numbers, 9);
     let opened = ledger_record::open_record(t, curves, size, first);
     let answer = opened.answer;
-    let record = opened.record;
     write_line(b"open", ledger_record::open_number(answer) as u64);
-    write_record(record);
-    with_record(state, record)
+    opened.record
 }
 
 // check P
-pub fn check(numbers: Numbers, state: State) -> State {
-    if numbers.count != 1 {
-        return refuse(state);
-    }
-    let record = state.record;
+pub fn check(numbers: Numbers, record: Record) {
     let answer = ledger::check_purchase(record, value(numbers, 0));
     write_line(b"check", ledger::check_number(answer) as u64);
-    write_record(record);
-    state
 }
 
 // propose
-pub fn propose(numbers: Numbers, state: State) -> State {
-    if numbers.count != 0 {
-        return refuse(state);
-    }
-    let record = state.record;
+pub fn propose(record: Record) {
     let answer = ledger::propose_purchase(record);
     write(b"propose");
     write_number(ledger::propose_number(answer) as u64);
@@ -137,6 +104,4 @@ pub fn propose(numbers: Numbers, state: State) -> State {
         ProposeAnswer::Unusable => write_number(0),
     }
     write(b"\n");
-    write_record(record);
-    state
 }

@@ -3,84 +3,77 @@ ghost use mathlib.Core.Path.{_≡_};
 ghost use lib.ListN.{length};
 
 mod calls;
+mod lines;
 mod make;
 mod readings;
 mod show;
 mod state;
 mod text;
 
+use bytes::scan::find;
+use energy::curve::Curves;
+use ledger_record::Record;
 use libc::STDIN_FILENO;
+use lines::line_of;
+use show::write_record;
 use state::State;
 use text::Numbers;
 
-// The words, as `text::word_number` gives them.
-const CHECK: u64 = 0x1_63_68_65_63_6b;
-
-const PROPOSE: u64 = 0x1_70_72_6f_70_6f_73_65;
-
-const OPEN: u64 = 0x1_6f_70_65_6e;
-
-const PUT: u64 = 0x1_70_75_74;
-
-const CURVE: u64 = 0x1_63_75_72_76_65;
-
-const CLEAR: u64 = 0x1_63_6c_65_61_72;
-
-const READ: u64 = 0x1_72_65_61_64;
-
-const CLOSE: u64 = 0x1_63_6c_6f_73_65;
-
-const ENERGY: u64 = 0x1_65_6e_65_72_67_79;
-
-const BLOCK: u64 = 0x1_62_6c_6f_63_6b;
-
-const PART: u64 = 0x1_70_61_72_74;
-
-fn call_plain(word: u64, numbers: Numbers, state: State) -> State {
+// The calls that print the record after them.
+fn call_record(word: u64, numbers: Numbers, curves: Curves, given: Record, held: &[u16]) -> Record {
+    let mut record = given;
     match word {
-        CHECK => calls::check(numbers, state),
-        PROPOSE => calls::propose(numbers, state),
-        OPEN => calls::open(numbers, state),
-        PUT => make::put(numbers, state),
-        CURVE => calls::set_curve(numbers, state),
-        CLEAR => readings::clear(numbers, state),
-        _ => state::refuse(state),
+        lines::OPEN => record = calls::open(numbers, curves),
+        lines::CHECK => calls::check(numbers, given),
+        lines::PROPOSE => calls::propose(given),
+        _ => record = readings::close(numbers, given, held),
     }
+    write_record(record);
+    record
 }
 
-fn call_over(word: u64, numbers: Numbers, state: State, held: &[u16]) -> State {
+fn next_record(word: u64, numbers: Numbers, curves: Curves, given: Record, held: &[u16]) -> Record {
     match word {
-        CLOSE => readings::close(numbers, state, held),
-        ENERGY => readings::bound(numbers, state, held),
-        BLOCK => readings::block(numbers, state, held),
-        _ => readings::part(numbers, state, held),
+        lines::PUT => return make::put(numbers, given),
+        lines::ENERGY => readings::bound(numbers, curves, held),
+        lines::BLOCK => readings::block(held),
+        lines::PART => readings::part(numbers, held),
+        lines::READ => (),
+        lines::CLEAR => (),
+        lines::CURVE => (),
+        _ => return call_record(word, numbers, curves, given, held),
     }
+    given
+}
+
+fn next_curves(word: u64, numbers: Numbers, curves: Curves) -> Curves {
+    if word == lines::CURVE {
+        return calls::set_curve(numbers, curves);
+    }
+    curves
+}
+
+// How many readings are held then.
+fn next_held(word: u64, numbers: Numbers, held: usize, space: &mut [u16]) -> usize {
+    if word == lines::READ {
+        return readings::read(numbers, held, space);
+    }
+    if (word == lines::CLEAR) | (word == lines::CLOSE) | (word == lines::ENERGY) {
+        return 0;
+    }
+    held
 }
 
 fn call(word: u64, numbers: Numbers, state: State, space: &mut [u16]) -> State {
-    if word == READ {
-        return readings::read(numbers, state, space);
+    let curves = state.curves;
+    let record = state.record;
+    let held = common::smaller(state.held as u64, space.len() as u64) as usize;
+    let after = next_record(word, numbers, curves, record, &space[..held]);
+    State {
+        held: next_held(word, numbers, held, space),
+        curves: next_curves(word, numbers, curves),
+        record: after,
     }
-    if !((word == CLOSE) | (word == ENERGY) | (word == BLOCK) | (word == PART)) {
-        return call_plain(word, numbers, state);
-    }
-    let held = state.held;
-    if space.len() < held {
-        return state::refuse(state);
-    }
-    call_over(word, numbers, state, &space[..held])
-}
-
-fn take_line(line: &[u8], state: State, space: &mut [u16]) -> State {
-    let end = text::find(line, 0, b' ');
-    if line.len() < end {
-        return state::refuse(state);
-    }
-    let numbers = text::numbers_from(line, end);
-    if !numbers.good {
-        return state::refuse(state);
-    }
-    call(text::word_number(&line[..end]), numbers, state, space)
 }
 
 // The number of the first malformed line, after which none is read; 0 where none is.
@@ -90,15 +83,17 @@ fn take_lines(input: &[u8], space: &mut [u16]) -> u64 {
     let mut at: usize = 0;
     while at < input.len() {
         number += 1;
-        let end = text::find(input, at, b'\n');
-        if input.len() <= end {
+        let end = find(input, at, input.len(), b'\n');
+        if end == input.len() {
             return number;
         }
         let next = end + 1;
-        state = take_line(&input[at..end], state, space);
-        if !state.good {
+        let line = line_of(&input[at..end], state.held);
+        if !line.good {
             return number;
         }
+        let numbers = line.numbers;
+        state = call(line.word, numbers, state, space);
         at = next;
     }
     0

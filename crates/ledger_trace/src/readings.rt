@@ -1,20 +1,16 @@
-// The lines over the readings, of which the state says how many are held.
+// The lines over the readings that are held.
 use crate::calls::high_of;
 use crate::calls::low_of;
 use crate::show::write_line;
-use crate::show::write_record;
 use crate::show::write_three;
-use crate::state::State;
-use crate::state::hold;
-use crate::state::refuse;
-use crate::state::with_record;
 use crate::text::Numbers;
-use crate::text::are_within;
 use crate::text::value;
 use crate::text::value_u16;
 use crate::text::value_u32;
 use energy::block::BlockCheck;
+use energy::curve::Curves;
 use energy::period::PeriodEnergy;
+use ledger_record::Record;
 
 fn fill(readings: &mut [u16], from: usize, end: usize, reading: u16) {
     let mut i = from;
@@ -27,48 +23,26 @@ fn fill(readings: &mut [u16], from: usize, end: usize, reading: u16) {
     }
 }
 
-// read V N
-pub fn read(numbers: Numbers, state: State, readings: &mut [u16]) -> State {
-    if numbers.count != 2 {
-        return refuse(state);
-    }
-    let held = state.held;
-    if 28_801 < held {
-        return refuse(state);
-    }
-    let room = 28_801 - held;
-    if !(are_within(numbers, 0, 1, 65_535) & are_within(numbers, 1, 2, room as u64)) {
-        return refuse(state);
-    }
+// read V N: how many readings there are then.
+pub fn read(numbers: Numbers, held: usize, readings: &mut [u16]) -> usize {
     let more = value_u16(numbers, 1) as usize;
+    if 28_801 < held {
+        return held;
+    }
     let end = held + more;
     fill(readings, held, end, value_u16(numbers, 0));
-    hold(state, end)
-}
-
-// clear
-pub fn clear(numbers: Numbers, state: State) -> State {
-    if numbers.count != 0 {
-        return refuse(state);
-    }
-    hold(state, 0)
+    end
 }
 
 // close P D T
-pub fn close(numbers: Numbers, state: State, readings: &[u16]) -> State {
-    if numbers.count != 3 {
-        return refuse(state);
-    }
-    let given = state.record;
+pub fn close(numbers: Numbers, given: Record, readings: &[u16]) -> Record {
     let p = value(numbers, 0);
     let delivered = value(numbers, 1);
     let taken = value(numbers, 2);
     let closed = ledger::close_period(given, p, readings, delivered, taken);
     let answer = closed.answer;
-    let record = closed.record;
     write_line(b"close", ledger::close_number(answer) as u64);
-    write_record(record);
-    hold(with_record(state, record), 0)
+    closed.record
 }
 
 fn write_energy(answer: PeriodEnergy) {
@@ -82,18 +56,10 @@ fn write_energy(answer: PeriodEnergy) {
 }
 
 // energy LDC LDM LDR HDC HDM HDR
-pub fn bound(numbers: Numbers, state: State, readings: &[u16]) -> State {
-    if numbers.count != 6 {
-        return refuse(state);
-    }
-    if !are_within(numbers, 0, 6, 4_294_967_295) {
-        return refuse(state);
-    }
-    let curves = state.curves;
+pub fn bound(numbers: Numbers, curves: Curves, readings: &[u16]) {
     let low = low_of(numbers);
     let high = high_of(numbers);
     write_energy(energy::period::period_energy(low, high, curves, readings));
-    hold(state, 0)
 }
 
 fn write_check(answer: BlockCheck) {
@@ -106,12 +72,8 @@ fn write_check(answer: BlockCheck) {
 }
 
 // block
-pub fn block(numbers: Numbers, state: State, readings: &[u16]) -> State {
-    if numbers.count != 0 {
-        return refuse(state);
-    }
+pub fn block(readings: &[u16]) {
     write_check(energy::block::check_block(readings));
-    state
 }
 
 fn wide(reading: u16) -> u64 {
@@ -128,13 +90,6 @@ fn write_part(part: &[u16]) {
 }
 
 // part N
-pub fn part(numbers: Numbers, state: State, readings: &[u16]) -> State {
-    if numbers.count != 1 {
-        return refuse(state);
-    }
-    if !are_within(numbers, 0, 1, 4_294_967_295) {
-        return refuse(state);
-    }
+pub fn part(numbers: Numbers, readings: &[u16]) {
     write_part(energy::block::part(readings, value_u32(numbers, 0)));
-    state
 }

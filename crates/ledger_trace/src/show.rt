@@ -1,8 +1,7 @@
 // What is written of each answer: a word, and numbers after a blank each.
-use ledger_record::Entries;
 use ledger_record::Record;
+use ledger_record::next_start;
 use libc::STDOUT_FILENO;
-use terms::Quantities;
 
 pub fn write(bytes: &[u8]) {
     io::write_all(STDOUT_FILENO, bytes);
@@ -43,21 +42,6 @@ pub fn write_three(word: &[u8], a: u64, b: u64, c: u64) {
     write(b"\n");
 }
 
-// The start of the period after the closed ones, 0 where more than 8 are closed.
-fn next_start(q: Quantities, closed: u32, entries: Entries) -> i64 {
-    let bounds = entries.bounds;
-    let table = requirement::direction_table(q, bounds);
-    let rows = table.rows;
-    if closed < 8 {
-        let row = rows[closed as usize];
-        return row.start;
-    }
-    if closed == 8 {
-        return table.start9;
-    }
-    0
-}
-
 fn write_starts(record: Record) {
     let t = record.terms;
     let low = t.low;
@@ -73,9 +57,10 @@ pub fn write_record(record: Record) {
     write_small(record.closed);
     write_small(record.state);
     write_starts(record);
-    write_small(record.bought);
-    write_small(record.sold);
-    write_small(record.delivered);
-    write_small(record.taken);
+    let totals = record.totals;
+    write_small(totals.bought);
+    write_small(totals.sold);
+    write_small(totals.delivered);
+    write_small(totals.taken);
     write(b"\n");
 }

@@ -1,5 +1,4 @@
 // A line's word and numbers.
-ghost use Prim.Native.Nat.{_≤_};
 
 // The numbers after the word; good: they are written as they must be, and are fewer than 12.
 pub struct Numbers {
@@ -17,20 +16,6 @@ struct Number {
     good: bool,
     value: i64,
     next: usize,
-}
-
-// The place of the first such byte from a place on, or of the end.
-pub fn find(text: &[u8], from: usize, byte: u8) -> usize
-    ensures { λ r. ⌜ from ≤ r ⌝ }
-{
-    let mut at = from;
-    while at < text.len() {
-        if text[at] == byte {
-            return at;
-        }
-        at += 1;
-    }
-    at
 }
 
 // A word's bytes after a 1, as one number; 0 for a word of more than seven.
@@ -166,14 +151,11 @@ pub fn value(numbers: Numbers, at: usize) -> i64 {
 }
 
 // Whether the values from a place on, before the end, are from 0 to the most.
-pub fn are_within(numbers: Numbers, from: usize, end: usize, most: u64) -> bool {
+pub fn are_within(numbers: Numbers, from: usize, end: usize, most: i64) -> bool {
     let mut at = from;
     while at < end {
         let z = value(numbers, at);
-        if 0 < signed::below_zero(z) {
-            return false;
-        }
-        if most < signed::above_zero(z) {
+        if (z < 0) | (most < z) {
             return false;
         }
         at += 1;

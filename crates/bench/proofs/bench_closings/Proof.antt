@@ -7,12 +7,13 @@ use borrow.Author.Needs.{needs}
 use mir.Facts.{toZ-ofZ}
 use mir.Syntax.{w64}
 use mir.Val.{toZ}
+use Rattle.ledger.specs.Calls.{closingWith}
 use Rattle.bench.specs.Bench.{openedRecord, closings, recordNumber}
 use Rattle.bench.proofs.bench_closings.Statement.{statement}
 use Rattle.bench.proofs.bench_closings.Tie as tie
 
 abbrev Inv-loop : tie.InvT-loop
-Inv-loop mw size first count purchase readings delivered taken after₀ i₀ after i = (i ≤ count) × (after ≡ closings i (openedRecord mw size first) (record { purchase = toZ w64 purchase; readings = readings; delivered = toZ w64 delivered; taken = toZ w64 taken }))
+Inv-loop mw size first count purchase readings delivered taken after₀ i₀ after i = (i ≤ count) × (after ≡ closings i (openedRecord mw size first) (closingWith (toZ w64 purchase) readings (toZ w64 delivered) (toZ w64 taken)))
 
 abbrev μ-loop : tie.MeasureT-loop
 μ-loop mw size first count purchase readings delivered taken after₀ i₀ after i = count - i

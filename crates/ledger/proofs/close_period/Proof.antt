@@ -1,7 +1,7 @@
 -- `ledger::close_period` meets its contract, by its causes in their order. Assumes nothing.
 use mathlib.Core.Path.{_≡_, refl, sym, ap, _∙_}
 use mathlib.Core.Bool.{Bool, true, false, cond, _&&_}
-use Prim.Native.Nat.{ℕ, _+_, _<_, _^_}
+use Prim.Native.Nat.{ℕ}
 use native.Mathlib.Omega.{arith}
 use borrow.Author.Needs.{needs}
 use borrow.Author.Tests.{ltb-false, not-false}
@@ -11,17 +11,17 @@ use lib.ListN.{length}
 use mir.Facts.{toZ-ofZ}
 use Rattle.common.specs.Answer.{given}
 use Rattle.common.proofs.Tests.{both-true}
-use Rattle.signed.specs.Sign.{above, below, within}
+use Rattle.signed.specs.Sign.{above, within}
 use Rattle.terms.specs.Terms.{Q}
 use Rattle.energy.specs.Period.{lowDeviation, highDeviation}
 use Rattle.energy.proofs.Laws.{bound-most}
 use Rattle.ledger_record.specs.declared.Record.{Record}
-use Rattle.ledger_record.proofs.Openings.{Fits}
-use Rattle.ledger_record.proofs.Kept.{Kept, kept, fits}
+use Rattle.ledger_record.proofs.Openings.{LetThrough}
+use Rattle.ledger_record.proofs.Kept.{Kept, kept, opened}
 use Rattle.ledger.specs.declared.Settled.the-variants.{Not, To}
-use Rattle.ledger.specs.Calls.{unusable, accepts, moved, settles, closing}
+use Rattle.ledger.specs.Calls.{unusable, accepts, moved, settles, TotalsFit, closing}
 use Rattle.ledger.proofs.Closings.{accepted-most, no-bounds, BoundsAre, bounds-are, not-settled, settled-to}
-use Rattle.ledger.proofs.Settling.{bounded}
+use Rattle.ledger.proofs.Settling.{in-bounds}
 use Rattle.ledger.proofs.Usable.{rule-kept, before-eight}
 use Rattle.ledger.proofs.close_period.Statement.{statement}
 use Rattle.ledger.proofs.close_period.Tie as tie
@@ -45,8 +45,8 @@ module _ (c : tie.Else2) where
       let i = c .before .before in
       sym (i .before .is-unusable .ensures) ∙ i .if1 .left
 
-  fits-here : let g = start .args .given in Fits (g .terms) (g .curves) (g .size) (g .first)
-  fits-here = fits _ (rule-kept _ can-use)
+  opens : let g = start .args .given in LetThrough (g .terms) (g .curves) (g .size) (g .first)
+  opens = opened _ (rule-kept _ can-use)
 
   kept-here : Kept (start .args .given)
   kept-here = kept _ (eight start .0) (eight start .1) (rule-kept _ can-use)
@@ -78,7 +78,7 @@ module _ (c : tie.After-settle) where
   abbrev new : ℤ
   new = moved (pos (g .state)) (start on .args .purchase) (start on .args .delivered) (start on .args .taken)
 
-  bounds-here : BoundsAre (g .terms .low) (g .terms .high) (g .curves) (now (start on .args .readings)) (fits-here on .low-quantity) (fits-here on .high-quantity) (fits-here on .curves-hold) (energy-here .period-energy .result) (energy-here .period-energy .ensures) low high
+  bounds-here : BoundsAre (g .terms .low) (g .terms .high) (g .curves) (now (start on .args .readings)) (opens on .low-quantity) (opens on .high-quantity) (opens on .curves-hold) (energy-here .period-energy .result) (energy-here .period-energy .ensures) low high
   bounds-here = bounds-are _ _ _ _ _ _ _ _ _ low high (c .before .before .bounds .given .1)
 
   abbrev test : Bool
@@ -90,25 +90,24 @@ module _ (c : tie.After-settle) where
       rw (toZ-ofZ (f .purchase), toZ-ofZ (f .delivered), toZ-ofZ (f .taken)) at (c .settle .ensures)
 
   -- the totals stay in range
-  totals-fit : test ≡ true → let a = start on .args in
-      (g .closed < 8) × (g .bought + above (a .purchase) < 2 ^ 32) × (g .sold + below (a .purchase) < 2 ^ 32) × (g .delivered + above (a .delivered) < 2 ^ 32) × (g .taken + above (a .taken) < 2 ^ 32)
+  totals-fit : test ≡ true → let a = start on .args in TotalsFit (g .totals) (a .purchase) (a .delivered) (a .taken)
   totals-fit e =
       let a = start on .args in
       let k = kept-here on in
-      let f = fits-here on in
+      let f = opens on in
       let n = before-eight g (can-use on) in
       let p = accepted-most g (a .purchase) (accepted on) (k .state-most) (f .size-most) in
       let both-bounds = both-true (within (pos 0) (a .delivered) (pos low) && within (pos 0) (a .taken) (pos high)) (within (pos 0) new (pos (g .size))) e .0 in
-      let d = bounded (g .state) (g .size) low high (a .purchase) (a .delivered) (a .taken) both-bounds in
+      let d = in-bounds low high (a .delivered) (a .taken) both-bounds in
       let b = bounds-here in
       let l = bound-most (g .terms .low) (g .curves) (f .curves-hold) lowDeviation (now (a .readings)) (b .good) in
-      let h = bound-most (g .terms .high) (g .curves) (f .curves-hold) highDeviation (now (a .readings)) (b .good) in (
-        n,
-        omega (arith, p, k .bought-most, n),
-        omega (arith, p, k .sold-most, n),
-        omega (arith, d, k .delivered-most, b .low-is, l, ltb-false 1000 (Q (g .terms .low)) (f .low-quantity)),
-        omega (arith, d, k .taken-most, b .high-is, h, ltb-false 1000 (Q (g .terms .high)) (f .high-quantity)),
-      )
+      let h = bound-most (g .terms .high) (g .curves) (f .curves-hold) highDeviation (now (a .readings)) (b .good) in
+      record {
+        bought-fits = omega (arith, p, k .bought-most, n);
+        sold-fits = omega (arith, p, k .sold-most, n);
+        delivered-fits = omega (arith, d, k .delivered-most, b .low-is, l, ltb-false 1000 (Q (g .terms .low)) (f .low-quantity));
+        taken-fits = omega (arith, d, k .taken-most, b .high-is, h, ltb-false 1000 (Q (g .terms .high)) (f .high-quantity));
+      }
 
 is-unusable-requires : tie.Need-is-unusable-requires
 is-unusable-requires c κs = search needs
@@ -148,7 +147,7 @@ returns-3 c =
     let d = c .before in
     let e = d .before in
     let i = e .before .before .before .before .before in
-    let f = fits-here i in
+    let f = opens i in
     rw (c .refuse3 .ensures, can-use i, accepted i, no-bounds _ _ _ _ (f .low-quantity) (f .high-quantity) (f .curves-hold) (e .period-energy .result) (e .period-energy .ensures) (d .match .keys2)) (refl, refl)
 
 settle-requires : tie.Need-settle-requires
@@ -185,7 +184,7 @@ closed-record-requires c κs =
     let m = c .before .before .before in
     let t = settled-to (test m) (above (new m)) (c .before .settled .given .0 .0) (m .settle .result) (settle-is m) (c .before .settled .given .1) in
     let f = start (on m) .fits in
-    rw (toZ-ofZ (f .purchase), toZ-ofZ (f .delivered), toZ-ofZ (f .taken)) (totals-fit m (t .0))
+    rw (toZ-ofZ (f .purchase), toZ-ofZ (f .delivered), toZ-ofZ (f .taken)) (before-eight _ (can-use (on m)), totals-fit m (t .0))
 
 returns-5 : tie.Need-returns-5
 unfolding closing

@@ -2,11 +2,19 @@
 use borrow.Author.Needs.{needs, sfits-of}
 use lib.ListN.{getD, set}
 use mir.Facts.{toZ-ofZ}
+use mir.Syntax.{w64}
+use mir.Val.{SFits}
 use Rattle.requirement.specs.Requirement.{rowOf}
+use Rattle.ledger_record.proofs.Rows.{noRow, row-is}
 use Rattle.ledger.specs.Calls.{closedEntries}
-use Rattle.ledger.proofs.NextRow.{noRow, row-is}
 use Rattle.ledger.proofs.closed_entries.Statement.{statement}
 use Rattle.ledger.proofs.closed_entries.Tie as tie
+
+-- the start that is read off the row, a number of an `i64`
+start-read : (c : tie.After-struct-told) →
+    let t = c .before .before .before in
+    SFits w64 (getD (t .direction-table .result .rows) (t .before .before .args .closed) noRow .start)
+start-read c = sfits-of (c .struct-told .given .1 .1 .1 .0 .1)
 
 mul-bounds : tie.Need-mul-bounds
 mul-bounds c = search needs
@@ -43,7 +51,7 @@ returns c =
     let s = t .before .before in
     let a = s .args in
     let row = row-is (a .q) (set (a .entries .bounds) (a .closed) (a .bound)) (t .direction-table .result) (t .direction-table .ensures) noRow (a .closed) (s .pre) in
-    rw (toZ-ofZ {z = getD (t .direction-table .result .rows) (a .closed) noRow .start} (sfits-of (told .struct-told .given .1 .1 .1 .0 .1)), row)
+    rw (toZ-ofZ (start-read told), row)
 
 pub closed-entries-spec : {M : Type 1} → statement M
 closed-entries-spec =

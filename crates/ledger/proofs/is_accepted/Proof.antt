@@ -12,13 +12,13 @@ needs-of-requires c κs = search needs
 lies-between-requires : tie.Need-lies-between-requires
 lies-between-requires c κs =
     let e = c .needs-of .ensures in
-    (omega (arith, e .2, c .before .good .0), omega (arith, e .3, c .before .good .0))
+    (omega (arith, e .low-most, c .before .good .0), omega (arith, e .high-most, c .before .good .0))
 
 returns : tie.Need-returns
 unfolding accepts
 returns c =
     let n = c .before in
-    rw (c .lies-between .ensures, toZ-ofZ (n .before .fits .purchase), ← n .needs-of .ensures .0, ← n .needs-of .ensures .1)
+    rw (c .lies-between .ensures, toZ-ofZ (n .before .fits .purchase), ← n .needs-of .ensures .floor-is, ← n .needs-of .ensures .ceiling-is)
 
 pub is-accepted-spec : {M : Type 1} → statement M
 is-accepted-spec = tie.close (tie.spec needs-of-requires lies-between-requires returns)

@@ -18,10 +18,10 @@ returns c = rw (← c .before .is-unusable .ensures, c .if1 .taken)
 needs-of-requires : tie.Need-needs-of-requires
 needs-of-requires c κs = before-eight _ (sym (c .before .is-unusable .ensures) ∙ c .if1 .left)
 
-nearest-requires : tie.Need-nearest-requires
-nearest-requires c κs =
+toward-requires : tie.Need-toward-requires
+toward-requires c κs =
     let e = c .needs-of .ensures in
-    (omega (arith, e .2, c .before .before .before .good .0), omega (arith, e .3, c .before .before .before .good .0))
+    (omega (arith, e .low-most, c .before .before .before .good .0), omega (arith, e .high-most, c .before .before .before .good .0))
 
 returns-2 : tie.Need-returns-2
 unfolding proposing proposal
@@ -31,12 +31,12 @@ returns-2 c =
     rw (
       ← u .before .is-unusable .ensures,
       u .if1 .left,
-      toZ-ofZ {z = c .nearest .result} (sfits-of (c .nearest .ok)),
-      c .nearest .ensures,
-      ← n .needs-of .ensures .0,
-      ← n .needs-of .ensures .1,
+      toZ-ofZ {z = c .toward .result} (sfits-of (c .toward .ok)),
+      c .toward .ensures,
+      ← n .needs-of .ensures .floor-is,
+      ← n .needs-of .ensures .ceiling-is,
     )
 
 pub propose-purchase-spec : {M : Type 1} → statement M
 propose-purchase-spec =
-    tie.close (tie.spec is-unusable-requires returns needs-of-requires nearest-requires returns-2)
+    tie.close (tie.spec is-unusable-requires returns needs-of-requires toward-requires returns-2)

@@ -1,20 +1,37 @@
--- `ledger_record::entries_hold` meets its contract. The loop's invariant is `So`, and a turn keeps it by `step`. Assumes nothing.
+-- `ledger_record::entries_hold` meets its contract. The loop's invariant is `HeldSoFar`, and a turn keeps it by `step`. Assumes nothing.
 use mathlib.Core.Path.{ap}
 use Prim.Native.Nat.{_-_, _*_}
 use borrow.Author.Needs.{needs, sfits-of}
 use lib.IntN.{pos}
 use lib.ListN.{getD}
 use mir.Facts.{toZ-ofZ}
+use mir.Syntax.{w64}
+use mir.Val.{SFits}
 use Rattle.terms.specs.declared.DirectionTerms.{DirectionTerms}
-use Rattle.ledger_record.proofs.Entry.{So, begin, step, done}
+use Rattle.ledger_record.specs.declared.Entries.{Entries}
+use Rattle.ledger_record.proofs.Entry.{HeldSoFar, begin, step, done}
+use Rattle.ledger_record.proofs.Rows.{noRow}
 use Rattle.ledger_record.proofs.entries_hold.Statement.{statement}
 use Rattle.ledger_record.proofs.entries_hold.Tie as tie
 
 abbrev Inv-loop : tie.InvT-loop
-Inv-loop closed bounds starts scheds most rows holds₀ i₀ holds i = So closed most bounds starts scheds rows holds i
+Inv-loop closed bounds starts scheds most rows holds₀ i₀ holds i = HeldSoFar closed most bounds starts scheds rows holds i
 
 abbrev μ-loop : tie.MeasureT-loop
 μ-loop closed bounds starts scheds most rows holds₀ i₀ holds i = 8 - i
+
+abbrev entries : tie.After-rows Inv-loop μ-loop → Entries
+entries c = c .before .before .before .before .before .before .before .args .entries
+
+-- the requirement that is read, and the start that is read off the row, are numbers of an `i64`
+abbrev at : tie.After-entry-holds-arg Inv-loop μ-loop → tie.At-loop Inv-loop μ-loop
+at c = c .before .before .before
+
+requirement-read : (c : tie.After-entry-holds-arg Inv-loop μ-loop) → SFits w64 (getD (entries (at c .before) .starts) (at c .loop .i) (pos 0))
+requirement-read c = sfits-of (c .entry-holds-arg .given)
+
+start-read : (c : tie.After-struct-told Inv-loop μ-loop) → SFits w64 (getD (at (c .before) .before .before .direction-table .result .rows) (at (c .before) .loop .i) noRow .start)
+start-read c = sfits-of (c .struct-told .given .1 .1 .1 .0 .1)
 
 of-requires : tie.Need-of-requires Inv-loop μ-loop
 of-requires c κs = search needs
@@ -64,14 +81,10 @@ loop-less c = search needs
 loop-again : tie.Need-loop-again Inv-loop μ-loop
 loop-again c =
     let told = c .before in
-    let read = told .before in
-    let row = read .before in
-    let a = row .before in
-    let l = a .before in
-    let t = l .before .before in
-    let starts = t .before .before .before .before .before .before .args .entries .starts in
-    step _ _ _ _ _ _ (l .loop .inv) (a .loop-test .taken) _ _
-    (rw (toZ-ofZ {z = getD starts (l .loop .i) (pos 0)} (sfits-of (read .entry-holds-arg .given)), toZ-ofZ (sfits-of (told .struct-told .given .1 .1 .1 .0 .1))) at (c .entry-holds .ensures))
+    let turn = told .before .before .before in
+    let l = turn .before in
+    step _ _ _ _ _ _ (l .loop .inv) (turn .loop-test .taken) noRow _
+    (rw (toZ-ofZ (requirement-read (told .before)), toZ-ofZ (start-read told)) at (c .entry-holds .ensures))
 
 returns : tie.Need-returns Inv-loop μ-loop
 returns c =

@@ -1,11 +1,13 @@
 -- `ledger_record::state_holds` meets its contract. Assumes nothing.
-use Prim.Native.Nat.{suc}
-use borrow.Author.Needs.{needs}
+use borrow.Author.Needs.{needs, sfits-of}
+use mir.Facts.{toZ-ofZ}
 use Rattle.signed.proofs.Orders.{balance}
-use Rattle.ledger_record.specs.Rule.{startAt, stateRule}
-use Rattle.ledger_record.proofs.State.{passes-is}
+use Rattle.ledger_record.specs.Rule.{stateRule}
 use Rattle.ledger_record.proofs.state_holds.Statement.{statement}
 use Rattle.ledger_record.proofs.state_holds.Tie as tie
+
+abbrev start : tie.After-totals → tie.Start
+start c = c .before .before .before .before .before .before
 
 next-start-requires : tie.Need-next-start-requires
 next-start-requires c κs = search needs
@@ -24,14 +26,16 @@ unfolding stateRule
 returns c =
     let p = c .before in
     let n = p .before in
-    let g = n .before .before .before .before .before .before .before .args .given in
+    let g = start (n .before .before) .args .given in
+    let t = g .totals in
     rw (
       c .balances .ensures,
+      balance (g .state) (g .first) (t .bought) (t .sold) (t .delivered) (t .taken),
       p .state-passes .ensures,
+      toZ-ofZ {z = n .next-start2 .result} (sfits-of (n .next-start2 .ok)),
+      toZ-ofZ {z = n .before .next-start .result} (sfits-of (n .before .next-start .ok)),
       n .next-start2 .ensures,
       n .before .next-start .ensures,
-      passes-is (g .state) (g .size) (startAt (g .terms .low) (g .low) (suc (g .closed))) (startAt (g .terms .high) (g .high) (suc (g .closed))),
-      balance (g .state) (g .first) (g .bought) (g .sold) (g .delivered) (g .taken),
     )
 
 pub state-holds-spec : {M : Type 1} → statement M

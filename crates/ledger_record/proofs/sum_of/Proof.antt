@@ -1,6 +1,7 @@
 -- `ledger_record::sum_of` meets its contract. The loop's invariant: the total is the sum of the bounds so far. Assumes nothing.
 use mathlib.Core.Path.{_≡_, refl, ap, _∙_}
-use Prim.Native.Nat.{_*_, _-_, _≤_, _^_}
+use mathlib.Core.List.{List}
+use Prim.Native.Nat.{ℕ, _*_, _-_, _≤_, _^_}
 use native.Mathlib.Omega.{arith}
 use borrow.Author.Needs.{needs}
 use lib.ListN.{length, getD, take}
@@ -12,8 +13,13 @@ use Rattle.common.proofs.Lists.{sum-take}
 use Rattle.ledger_record.proofs.sum_of.Statement.{statement}
 use Rattle.ledger_record.proofs.sum_of.Tie as tie
 
+record SumSoFar (bounds : List ℕ) (total i : ℕ) : Type 0 where
+  within : i ≤ 8
+  is-sum : total ≡ sum (take i bounds)
+  most : total ≤ 2 ^ 32 * i
+
 abbrev Inv-loop : tie.InvT-loop
-Inv-loop bounds total₀ i₀ total i = (i ≤ 8) × (total ≡ sum (take i bounds)) × (total ≤ 2 ^ 32 * i)
+Inv-loop bounds total₀ i₀ total i = SumSoFar bounds total i
 
 abbrev μ-loop : tie.MeasureT-loop
 μ-loop bounds total₀ i₀ total i = 8 - i
@@ -27,7 +33,7 @@ bound-fits c = search needs
 
 loop-holds : tie.Need-loop-holds Inv-loop μ-loop
 unfolding sum
-loop-holds c = (omega arith, refl, omega arith)
+loop-holds c = record { within = omega arith; is-sum = refl; most = omega arith }
 
 mul-total : tie.Need-mul-total Inv-loop μ-loop
 mul-total c = search needs
@@ -51,12 +57,12 @@ loop-again : tie.Need-loop-again Inv-loop μ-loop
 loop-again c =
     let a = c .before in
     let next = sum-take (a .before .args .t1) (a .loop .i) (omega (arith, eight (a .before))) in
-    (omega arith, omega (arith, next), omega (arith, bound-fits c))
+    record { within = omega arith; is-sum = omega (arith, next); most = omega (arith, bound-fits c) }
 
 returns : tie.Need-returns Inv-loop μ-loop
 returns c =
     let a = c .before in
-    a .loop .inv .1 ∙ ap sum (take-all (a .loop .i) (a .before .args .t1) (omega (arith, eight (a .before))))
+    a .loop .inv .is-sum ∙ ap sum (take-all (a .loop .i) (a .before .args .t1) (omega (arith, eight (a .before))))
 
 pub sum-of-spec : {M : Type 1} → statement M
 sum-of-spec =

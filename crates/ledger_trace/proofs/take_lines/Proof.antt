@@ -34,23 +34,26 @@ returns c = search needs
 add-next : tie.Need-add-next Inv-loop μ-loop
 add-next c = omega arith
 
-sub-take-line : tie.Need-sub-take-line Inv-loop μ-loop
-sub-take-line c = omega arith
+sub-line-of : tie.Need-sub-line-of Inv-loop μ-loop
+sub-line-of c = omega arith
 
-part-take-line-start : tie.Need-part-take-line-start Inv-loop μ-loop
-part-take-line-start c = omega arith
+part-line-of-start : tie.Need-part-line-of-start Inv-loop μ-loop
+part-line-of-start c = omega arith
 
-part-take-line-end : tie.Need-part-take-line-end Inv-loop μ-loop
-part-take-line-end c = omega arith
+part-line-of-end : tie.Need-part-line-of-end Inv-loop μ-loop
+part-line-of-end c = omega arith
 
-take-line-requires : tie.Need-take-line-requires Inv-loop μ-loop
-take-line-requires c κs = search needs
+line-of-requires : tie.Need-line-of-requires Inv-loop μ-loop
+line-of-requires c κs = search needs
 
 same-length-2 : tie.Need-same-length-2 Inv-loop μ-loop
 same-length-2 c = search needs
 
 returns-2 : tie.Need-returns-2 Inv-loop μ-loop
 returns-2 c = search needs
+
+call-requires : tie.Need-call-requires Inv-loop μ-loop
+call-requires c κs = search needs
 
 loop-less : tie.Need-loop-less Inv-loop μ-loop
 loop-less c = omega arith
@@ -77,12 +80,13 @@ take-lines-spec =
     same-length
     returns
     add-next
-    sub-take-line
-    part-take-line-start
-    part-take-line-end
-    take-line-requires
+    sub-line-of
+    part-line-of-start
+    part-line-of-end
+    line-of-requires
     same-length-2
     returns-2
+    call-requires
     loop-less
     loop-again
     same-length-3

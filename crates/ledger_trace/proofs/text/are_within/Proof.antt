@@ -16,17 +16,8 @@ loop-holds c = search needs
 value-requires : tie.Need-value-requires Inv-loop μ-loop
 value-requires c κs = search needs
 
-below-zero-requires : tie.Need-below-zero-requires Inv-loop μ-loop
-below-zero-requires c κs = search needs
-
 returns : tie.Need-returns Inv-loop μ-loop
 returns c = search needs
-
-above-zero-requires : tie.Need-above-zero-requires Inv-loop μ-loop
-above-zero-requires c κs = search needs
-
-returns-2 : tie.Need-returns-2 Inv-loop μ-loop
-returns-2 c = search needs
 
 add-at : tie.Need-add-at Inv-loop μ-loop
 add-at c = search needs
@@ -37,8 +28,8 @@ loop-less c = search needs
 loop-again : tie.Need-loop-again Inv-loop μ-loop
 loop-again c = search needs
 
-returns-3 : tie.Need-returns-3 Inv-loop μ-loop
-returns-3 c = search needs
+returns-2 : tie.Need-returns-2 Inv-loop μ-loop
+returns-2 c = search needs
 
 pub are-within-spec : {M : Type 1} → statement M
 are-within-spec =
@@ -48,11 +39,8 @@ are-within-spec =
     μ-loop
     loop-holds
     value-requires
-    below-zero-requires
     returns
-    above-zero-requires
-    returns-2
     add-at
     loop-less
     loop-again
-    returns-3)
+    returns-2)

@@ -1,4 +1,4 @@
--- What a direction needs in the next period, read off the table of its bounds. Assumes nothing.
+-- A period's row, read off the table of a direction's bounds. Assumes nothing.
 use mathlib.Core.Path.{_≡_, ap}
 use mathlib.Core.Bool.{false}
 use mathlib.Core.List.{List}
@@ -24,11 +24,16 @@ pub row-is : (q : Quantities) (bounds : List ℕ) (t : Table) → t ≡ tableOf 
 unfolding tableOf
 row-is q bounds t is d n h = rw is (period-at (rowOf (REV q) (ER q) (ofPeriod bounds)) 8 n d h)
 
-module _ (q : Quantities) (x : Entries) (t : Table) (is : t ≡ tableOf (REV q) (ER q) (x .bounds)) (d : Row) (n : ℕ) (h : n < 8) where
-  pub start-of : getD (t .rows) n d .start ≡ startAt q x (suc n)
-  unfolding rowOf startAt
-  start-of = ap (λ (r : Row). r .start) (row-is q (x .bounds) t is d n h)
+module _ (q : Quantities) (x : Entries) (t : Table) (is : t ≡ tableOf (REV q) (ER q) (x .bounds)) where
+  module _ (d : Row) (n : ℕ) (h : n < 8) where
+    pub start-of : getD (t .rows) n d .start ≡ startAt q x (suc n)
+    unfolding rowOf startAt
+    start-of = ap (λ (r : Row). r .start) (row-is q (x .bounds) t is d n h)
 
-  pub back-of : getD (t .rows) n d .back ≡ backAt q x (suc n)
-  unfolding rowOf backAt
-  back-of = ap (λ (r : Row). r .back) (row-is q (x .bounds) t is d n h)
+    pub back-of : getD (t .rows) n d .back ≡ backAt q x (suc n)
+    unfolding rowOf backAt
+    back-of = ap (λ (r : Row). r .back) (row-is q (x .bounds) t is d n h)
+
+  pub start9-of : t .start9 ≡ startAt q x 9
+  unfolding tableOf startAt
+  start9-of = ap (λ (t : Table). t .start9) is

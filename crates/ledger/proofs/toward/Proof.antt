@@ -1,4 +1,4 @@
--- `ledger::nearest` meets its contract. Assumes nothing.
+-- `ledger::toward` meets its contract. Assumes nothing.
 use mathlib.Core.Path.{sym, _∙_}
 use Prim.Native.Nat.{_+_}
 use native.Mathlib.Omega.{arith}
@@ -7,8 +7,8 @@ use borrow.Author.Tests.{lt-ltb, le-ltb}
 use mir.Facts.{toZ-ofZ}
 use Rattle.signed.proofs.Signs.{nearest-sub, less-less}
 use Rattle.signed.proofs.Orders.{less-ltZ}
-use Rattle.ledger.proofs.nearest.Statement.{statement}
-use Rattle.ledger.proofs.nearest.Tie as tie
+use Rattle.ledger.proofs.toward.Statement.{statement}
+use Rattle.ledger.proofs.toward.Tie as tie
 
 difference-requires : tie.Need-difference-requires
 difference-requires c κs = search needs
@@ -48,8 +48,8 @@ returns-3 c =
     let a = i .before .args in
     rw (le-ltb (a .state) (a .low) (i .if1 .left), less-ltZ (a .size) (a .high) (a .state), le-ltb (a .size) (a .state + a .high) (c .if2 .left))
 
-pub nearest-spec : {M : Type 1} → statement M
-nearest-spec =
+pub toward-spec : {M : Type 1} → statement M
+toward-spec =
     tie.close
     (tie.spec
     difference-requires
