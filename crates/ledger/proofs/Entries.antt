@@ -8,6 +8,7 @@ use native.Mathlib.Numerals.{add-one}
 use native.Mathlib.Omega.{arith}
 use native.Mathlib.Decide.{decLe}
 use borrow.Author.Tests.{le-leb, lt-leb, eq-eqb}
+use lib.Dec.{leb}
 use lib.IntN.{pos, _+ℤ_}
 use lib.ListN.{length, getD, set, length-append, length-map, List·getD-eq-default}
 use Rattle.common.specs.Periods.{periodsTo, ofPeriod}
@@ -20,7 +21,6 @@ use Rattle.requirement.specs.Requirement.{start, sched, back}
 use Rattle.requirement.proofs.Laws.{start-local, sched-local}
 use Rattle.ledger_record.specs.Rule.{startAt, schedAt, backAt, entryRule, entriesRule}
 use Rattle.ledger_record.specs.declared.Entries.{Entries}
-use Rattle.ledger_record.proofs.Entry.{heldIf}
 use Rattle.ledger.specs.Calls.{Closing, need, closedEntries}
 use Rattle.ledger.specs.Promise.{History, Direction, extend, bounds, startAfter, backAfter, needAfter, eightOf, entriesAfter}
 use Rattle.ledger.proofs.Directions.{kept}
@@ -74,7 +74,7 @@ module _ (q : Quantities) (bound : List ℕ → ℕ) (h : History) where
     bounds-at = rw at-is (eight-at 0 (bounds d h) k)
 
     -- of a closed period they are those of the bounds
-    closed-is : getD (bounds d h) k 0 ≤ 500 * Q q → k < n → heldIf q x (suc k) true ≡ true
+    closed-is : getD (bounds d h) k 0 ≤ 500 * Q q → k < n → entryRule q x (suc k) true ≡ true
     closed-is most l =
         rw (
           le-leb (ofPeriod (x .bounds) (suc k)) (500 * Q q) (omega (arith, bounds-at)),
@@ -89,7 +89,7 @@ module _ (q : Quantities) (bound : List ℕ → ℕ) (h : History) where
         )
 
     -- of a period not closed they are 0
-    open-is : n ≤ k → heldIf q x (suc k) false ≡ true
+    open-is : n ≤ k → entryRule q x (suc k) false ≡ true
     open-is l =
         let long = length-map h (λ (c : Closing). bound (c .readings)) in
         let l₁ : length (bounds d h) ≤ k = omega arith in
@@ -106,10 +106,10 @@ module _ (q : Quantities) (bound : List ℕ → ℕ) (h : History) where
 
   -- where each bound is at most 500 × Q
   pub entries-keep : ((k : ℕ) → getD (bounds d h) k 0 ≤ 500 * Q q) → entriesRule q n x ≡ true
-  unfolding entriesRule entryRule
-  entries-keep most = every-period (entryRule q n x) 8 (λ k l. by k (decLe (suc k) n))
+  unfolding entriesRule
+  entries-keep most = every-period (λ (i : ℕ). entryRule q x i (leb i n)) 8 (λ k l. by k (decLe (suc k) n))
     where
-      by : (k : ℕ) → Dec (suc k ≤ n) → entryRule q n x (suc k) ≡ true
+      by : (k : ℕ) → Dec (suc k ≤ n) → entryRule q x (suc k) (leb (suc k) n) ≡ true
       by k (yes l) = rw (le-leb (suc k) n l) (closed-is k (most k) l)
       by k (no l) = rw (lt-leb (suc k) n (omega arith)) (open-is k (omega arith))
 

@@ -46,13 +46,6 @@ floor r = need (r .terms .low) (r .low) (suc (r .closed))
 abbrev pub ceiling : Record → ℤ
 ceiling r = pos (r .size) -ℤ need (r .terms .high) (r .high) (suc (r .closed))
 
--- the floor, and what must stay free below the size; neither is above its direction's REV
-pub record NeedsAre (r : Record) (n : Needs) : Type 0 where
-  pub floor-is : pos (n .low) ≡ floor r
-  pub ceiling-is : pos (r .size) -ℤ pos (n .high) ≡ ceiling r
-  pub low-most : n .low ≤ REV (r .terms .low)
-  pub high-most : n .high ≤ REV (r .terms .high)
-
 -- accepted exactly when floor ≤ state + p ≤ ceiling
 unfoldable pub accepts : Record → ℤ → Bool
 accepts r p = within (floor r) (pos (r .state) +ℤ p) (ceiling r)
@@ -105,10 +98,6 @@ settles low high size delivered taken new =
     && within (pos 0) taken (pos high)
     && within (pos 0) new (pos size)
 
--- the new state, where the closing settles
-abbrev pub settling : ℕ → ℕ → ℕ → ℤ → ℤ → ℤ → Settled
-settling low high size delivered taken new = cond (settles low high size delivered taken new) (settlements.To (above new)) settlements.Not
-
 -- a direction's entries with one period more: its bound, its start and its schedule
 unfoldable pub closedEntries : Quantities → Entries → ℕ → ℕ → Entries
 closedEntries q x closed bound =
@@ -127,13 +116,6 @@ closedTotals t p delivered taken =
       delivered = t .delivered + above delivered;
       taken = t .taken + above taken;
     }
-
--- each total with one more closing is a u32
-pub record TotalsFit (t : Totals) (p delivered taken : ℤ) : Type 0 where
-  pub bought-fits : t .bought + above p < 2 ^ 32
-  pub sold-fits : t .sold + below p < 2 ^ 32
-  pub delivered-fits : t .delivered + above delivered < 2 ^ 32
-  pub taken-fits : t .taken + above taken < 2 ^ 32
 
 -- one period more is closed
 unfoldable pub closedRecord : Record → ℕ → ℕ → ℕ → ℤ → ℤ → ℤ → Record
@@ -193,3 +175,23 @@ closeAnswerWith closes.Energy a = refused 9
 
 abbrev pub closeAnswerOf : Closed → Answer Record
 closeAnswerOf c = closeAnswerWith (c .answer) (c .«record»)
+
+-- ---- what private functions ask and give
+
+-- `needs_of`: the floor, and what must stay free below the size; neither is above its direction's REV
+pub record NeedsAre (r : Record) (n : Needs) : Type 0 where
+  pub floor-is : pos (n .low) ≡ floor r
+  pub ceiling-is : pos (r .size) -ℤ pos (n .high) ≡ ceiling r
+  pub low-most : n .low ≤ REV (r .terms .low)
+  pub high-most : n .high ≤ REV (r .terms .high)
+
+-- `settle`: the new state, where the closing settles
+abbrev pub settling : ℕ → ℕ → ℕ → ℤ → ℤ → ℤ → Settled
+settling low high size delivered taken new = cond (settles low high size delivered taken new) (settlements.To (above new)) settlements.Not
+
+-- `closed_totals`: each total with one more closing is a u32
+pub record TotalsFit (t : Totals) (p delivered taken : ℤ) : Type 0 where
+  pub bought-fits : t .bought + above p < 2 ^ 32
+  pub sold-fits : t .sold + below p < 2 ^ 32
+  pub delivered-fits : t .delivered + above delivered < 2 ^ 32
+  pub taken-fits : t .taken + above taken < 2 ^ 32

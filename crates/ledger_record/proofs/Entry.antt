@@ -1,11 +1,11 @@
 -- The loop of `entries_hold`: after i turns, whether the entries of the periods 1 to i keep the rule. Assumes nothing.
 use mathlib.Core.Path.{_≡_, refl, ap, _∙_}
-use mathlib.Core.Bool.{Bool, true, _&&_}
+use mathlib.Core.Bool.{Bool, true, cond, _&&_}
 use mathlib.Core.List.{List}
 use Prim.Native.Nat.{ℕ, suc, _+_, _-_, _*_, _≤_, _<_}
 use native.Mathlib.Numerals.{add-one}
 use native.Mathlib.Omega.{arith}
-use lib.Dec.{ltb}
+use lib.Dec.{leb, ltb, eqb}
 use lib.IntN.{ℤ, pos}
 use lib.ListN.{getD}
 use Rattle.common.specs.Lists.{every}
@@ -16,23 +16,17 @@ use Rattle.terms.specs.declared.Quantities.{Quantities}
 use Rattle.requirement.specs.Requirement.{sched, rowOf, tableOf}
 use Rattle.requirement.specs.declared.Row.{Row}
 use Rattle.requirement.specs.declared.Table.{Table}
-use Rattle.ledger_record.specs.Rule.{startAt, schedAt, entryHolds, entryRule, entriesRule}
+use Rattle.ledger_record.specs.Rule.{startAt, schedAt, noted, entryRule, entriesRule}
 use Rattle.ledger_record.specs.declared.Entries.{Entries}
 use Rattle.ledger_record.proofs.Rows.{row-is}
-
--- the rule of an entry, by whether its period is closed
-abbrev pub heldIf : Quantities → Entries → ℕ → Bool → Bool
-heldIf q x i closed =
-    entryHolds closed (500 * Q q)
-    (ofPeriod (x .bounds) i) (getD (x .starts) (i - 1) (pos 0)) (ofPeriod (x .scheds) i)
-    (startAt q x i) (schedAt q x i)
 
 module _ (closed most : ℕ) (bounds : List ℕ) (starts : List ℤ) (scheds : List ℕ) (rows : List Row) where
   -- what a turn tests, of period k + 1
   abbrev pub tested : Row → ℕ → Bool
   tested d k =
-      entryHolds (ltb k closed) most (getD bounds k 0) (getD starts k (pos 0)) (getD scheds k 0)
-      (getD rows k d .start) (getD rows k d .sched)
+      cond (ltb k closed)
+      (leb (getD bounds k 0) most && noted (getD starts k (pos 0)) (getD scheds k 0) (getD rows k d .start) (getD rows k d .sched))
+      (eqb (getD bounds k 0) 0 && noted (getD starts k (pos 0)) (getD scheds k 0) (pos 0) 0)
 
   -- a rule that agrees with the tests
   abbrev pub Agrees : (ℕ → Bool) → Type 0
@@ -55,8 +49,8 @@ module _ (closed most : ℕ) (bounds : List ℕ) (starts : List ℤ) (scheds : L
 
 -- the rule of the entries agrees with the tests, beside the rows of their bounds
 pub rule-agrees : (q : Quantities) (closed most : ℕ) (x : Entries) (t : Table) → most ≡ 500 * Q q → t ≡ tableOf (REV q) (ER q) (x .bounds)
-    → Agrees closed most (x .bounds) (x .starts) (x .scheds) (t .rows) (entryRule q closed x)
-unfolding entryRule startAt schedAt tableOf rowOf
+    → Agrees closed most (x .bounds) (x .starts) (x .scheds) (t .rows) (λ (i : ℕ). entryRule q x i (leb i closed))
+unfolding startAt schedAt tableOf rowOf
 rule-agrees q closed most x t m e d k h =
     let p : suc k - 1 ≡ k = omega arith in
     rw (row-is q (x .bounds) t e d k h, m, p)
@@ -67,4 +61,4 @@ pub done : {closed most : ℕ} {x : Entries} {t : Table} {holds : Bool} {i : ℕ
 unfolding entriesRule
 done {closed} {most} {x} {t} {i} q s h m e =
     let p : i ≡ 8 = omega arith in
-    s .so-far (entryRule q closed x) (rule-agrees q closed most x t m e) ∙ ap (λ (n : ℕ). every (entryRule q closed x) (periodsTo n)) p
+    s .so-far _ (rule-agrees q closed most x t m e) ∙ ap (λ (n : ℕ). every (λ (i : ℕ). entryRule q x i (leb i closed)) (periodsTo n)) p

@@ -18,18 +18,17 @@ use Rattle.ledger_record.specs.Opening.{openingCauses}
 use Rattle.ledger_record.specs.Rule.{entryRule, entriesRule, totalsRule, stateRule, recordRule}
 use Rattle.ledger_record.specs.declared.Entries.{Entries}
 use Rattle.ledger_record.specs.declared.Record.{Record}
-use Rattle.ledger_record.proofs.Entry.{heldIf}
 use Rattle.ledger_record.proofs.Openings.{LetThrough, let-through}
 
 -- a bound is at most 500 × Q, whether its period is closed or not
 pub bound-most : (q : Quantities) (closed : ℕ) (x : Entries) (k : ℕ) → k < 8 → entriesRule q closed x ≡ true → ofPeriod (x .bounds) (suc k) ≤ 500 * Q q
-unfolding entriesRule entryRule
-bound-most q closed x k h e = by (leb (suc k) closed) (period-holds (entryRule q closed x) 8 k e h)
+unfolding entriesRule
+bound-most q closed x k h e = by (leb (suc k) closed) (period-holds (λ (i : ℕ). entryRule q x i (leb i closed)) 8 k e h)
   where
     b : ℕ
     b = ofPeriod (x .bounds) (suc k)
 
-    by : (c : Bool) → heldIf q x (suc k) c ≡ true → b ≤ 500 * Q q
+    by : (c : Bool) → entryRule q x (suc k) c ≡ true → b ≤ 500 * Q q
     by true e = leb-true b (500 * Q q) (both-true _ _ e .0)
     by false e =
         let z = eqb-true b 0 (both-true _ _ e .0) in

@@ -28,37 +28,35 @@ schedAt q x i = sched (ER q) (ofPeriod (x .bounds)) i
 unfoldable pub backAt : Quantities → Entries → ℕ → ℕ
 backAt q x i = back (ER q) (ofPeriod (x .bounds)) i
 
--- a closed period has a bound of at most 500 × Q, `most`, and the requirement and schedule of the bounds, `start` and `sched`;
--- entries of periods not closed are 0
-abbrev pub entryHolds : Bool → ℕ → ℕ → ℤ → ℕ → ℤ → ℕ → Bool
-entryHolds closed most bound requirement schedule start sched =
-    cond closed
-    (leb bound most && (eqZ requirement start && eqb schedule sched))
-    (eqb bound 0 && (eqZ requirement (pos 0) && eqb schedule 0))
+-- the requirement in the entries of period i
+abbrev pub requirementOf : Entries → ℕ → ℤ
+requirementOf x i = getD (x .starts) (i - 1) (pos 0)
 
--- the entries of period i
-unfoldable pub entryRule : Quantities → ℕ → Entries → ℕ → Bool
-entryRule q closed x i =
-    entryHolds (leb i closed) (500 * Q q)
-    (ofPeriod (x .bounds) i) (getD (x .starts) (i - 1) (pos 0)) (ofPeriod (x .scheds) i)
-    (startAt q x i) (schedAt q x i)
+-- a requirement and a schedule are this start and this sched
+abbrev pub noted : ℤ → ℕ → ℤ → ℕ → Bool
+noted requirement schedule start sched = eqZ requirement start && eqb schedule sched
+
+-- the entries of period i, closed or not: bounds are at most 500 × Q; requirements and schedules are those of the bounds, and
+-- entries of periods not closed are 0
+abbrev pub entryRule : Quantities → Entries → ℕ → Bool → Bool
+entryRule q x i closed =
+    cond closed
+    (leb (ofPeriod (x .bounds) i) (500 * Q q) && noted (requirementOf x i) (ofPeriod (x .scheds) i) (startAt q x i) (schedAt q x i))
+    (eqb (ofPeriod (x .bounds) i) 0 && noted (requirementOf x i) (ofPeriod (x .scheds) i) (pos 0) 0)
 
 unfoldable pub entriesRule : Quantities → ℕ → Entries → Bool
-entriesRule q closed x = every (entryRule q closed x) (periodsTo 8)
+entriesRule q closed x = every (λ (i : ℕ). entryRule q x i (leb i closed)) (periodsTo 8)
 
 -- ---- the whole record
 
 -- bought and sold are each at most 10,000,000 per period closed, delivered at most the sum of the low bounds, taken at most
 -- that of the high
-abbrev pub totalsWithin : ℕ → Totals → ℕ → ℕ → Bool
-totalsWithin closed totals low high =
-    leb (totals .bought) (10000000 * closed)
-    && leb (totals .sold) (10000000 * closed)
-    && leb (totals .delivered) low
-    && leb (totals .taken) high
-
 unfoldable pub totalsRule : Record → Bool
-totalsRule r = totalsWithin (r .closed) (r .totals) (sum (r .low .bounds)) (sum (r .high .bounds))
+totalsRule r =
+    leb (r .totals .bought) (10000000 * r .closed)
+    && leb (r .totals .sold) (10000000 * r .closed)
+    && leb (r .totals .delivered) (sum (r .low .bounds))
+    && leb (r .totals .taken) (sum (r .high .bounds))
 
 -- the next start, that of the period after the closed ones; 0 where more than eight are closed
 unfoldable pub nextStart : Quantities → ℕ → Entries → ℤ

@@ -1,11 +1,13 @@
 // The ledger's record, its rule and opening.
 ghost use mathlib.Core.Path.{_≡_};
-ghost use Prim.Native.Nat.{_+_};
-ghost use lib.Dec.{eqb};
+ghost use mathlib.Core.Bool.{cond, _&&_};
+ghost use Prim.Native.Nat.{_+_, _*_};
+ghost use lib.Dec.{leb, eqb};
+ghost use lib.IntN.{pos};
 ghost use Rattle.common.specs.Answer.{numberOf, isGiven, orBlank};
 ghost use Rattle.common.specs.Lists.{sum};
 ghost use Rattle.ledger_record.specs.Opening.{quantityOut, sizeOut, firstOut, firstRecord, blankRecord, opening, answerWith, answerOf};
-ghost use Rattle.ledger_record.specs.Rule.{entryHolds, entriesRule, totalsWithin, totalsRule, nextStart, passesBoth, stateRule, recordRule};
+ghost use Rattle.ledger_record.specs.Rule.{noted, entriesRule, totalsRule, nextStart, passesBoth, stateRule, recordRule};
 use energy::curve::Curve;
 use energy::curve::Curves;
 use energy::curve::Point;
@@ -213,7 +215,7 @@ fn entry_holds(
     start: i64,
     sched: u64,
 ) -> bool
-    ensures { λ r. ⌜ r ≡ entryHolds done most bound requirement schedule start sched ⌝ }
+    ensures { λ r. ⌜ r ≡ cond done (leb bound most && noted requirement schedule start sched) (eqb bound 0 && noted requirement schedule (pos 0) 0) ⌝ }
 {
     if done {
         return (bound as u64 <= most) & ((requirement == start) & (schedule == sched));
@@ -263,7 +265,7 @@ fn sum_of(bounds: [u32; 8]) -> u64
 
 // Bought and sold against the periods closed, delivered and taken against the sums of the bounds.
 fn totals_within(closed: u32, totals: Totals, low: u64, high: u64) -> bool
-    ensures { λ r. ⌜ r ≡ totalsWithin closed totals low high ⌝ }
+    ensures { λ r. ⌜ r ≡ (leb (totals .bought) (10000000 * closed) && leb (totals .sold) (10000000 * closed) && leb (totals .delivered) low && leb (totals .taken) high) ⌝ }
 {
     let most = 10_000_000 * closed as u64;
     (totals.bought as u64 <= most)

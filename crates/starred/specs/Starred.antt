@@ -22,7 +22,7 @@ use Rattle.capability.specs.declared.Points.{Points}
 use Rattle.capability.specs.Capability.{pointsRule, capabilityFrom, capabilityOf, capabilityAnswer}
 use Rattle.ledger_record.specs.declared.Record.{Record}
 use Rattle.ledger_record.specs.Opening.{openingCauses, blankRecord, opening}
-use Rattle.ledger_record.specs.Rule.{startAt, schedAt, backAt, entryRule, entriesRule, totalsRule, nextStart, stateRule, recordRule}
+use Rattle.ledger_record.specs.Rule.{startAt, schedAt, backAt, entriesRule, totalsRule, nextStart, stateRule, recordRule}
 use Rattle.ledger.specs.Calls.{unusable, need, accepts, checking}
 
 -- lines of numbers
@@ -144,5 +144,5 @@ starred =
     ∷ []
 
 starred-hold : map (λ (x : Example). x .given) starred ≡ map (λ (x : Example). x .printed) starred
-unfolding starred volumes containment regulation line bit nat highTable point lowPoints highPoints capabilities fullBattery left sched back start end rowOf periodsTo tableOf rowsOf monitoring someEntry every sum shareFrom response chain curveRule curvesRule limitsBroken openingCauses opening startAt schedAt backAt entryRule entriesRule totalsRule nextStart stateRule recordRule unusable need accepts checking pointsRule capabilityFrom capabilityOf capabilityAnswer
+unfolding starred volumes containment regulation line bit nat highTable point lowPoints highPoints capabilities fullBattery left sched back start end rowOf periodsTo tableOf rowsOf monitoring someEntry every sum shareFrom response chain curveRule curvesRule limitsBroken openingCauses opening startAt schedAt backAt entriesRule totalsRule nextStart stateRule recordRule unusable need accepts checking pointsRule capabilityFrom capabilityOf capabilityAnswer
 starred-hold = refl

@@ -26,13 +26,12 @@ use Rattle.ledger.proofs.Usable.{rule-kept, before-eight}
 use Rattle.ledger.proofs.close_period.Statement.{statement}
 use Rattle.ledger.proofs.close_period.Tie as tie
 
--- the arrays of a record have eight entries
+-- the arrays of a record have eight entries: what the prover knows of the record's fields, from the low entries on
 eight : (c : tie.Start) → (length (c .args .given .low .bounds) ≡ 8) × (length (c .args .given .high .bounds) ≡ 8)
 eight c =
-    let low = c .good .0 .1 .1 .1 .1 .1 .1 .1 .1 .0 in
-    let high = c .good .0 .1 .1 .1 .1 .1 .1 .1 .1 .1 .0 in
-    let low-bounds = low .1 .0 in
-    let high-bounds = high .1 .0 in
+    let from-low = c .good .0 .1 .1 .1 .1 .1 .1 .1 .1 in
+    let low-bounds = from-low .0 .1 .0 in
+    let high-bounds = from-low .1 .0 .1 .0 in
     (search needs, search needs)
 
 -- ---- what is known once neither 10 nor 8 holds
