@@ -31,8 +31,8 @@ in-range p e =
     let b = both-true _ _ e in
     record { deviation-le = leb-true _ _ (b .0); share-le = leb-true _ _ (b .1) }
 
-pub range : (p : Point) (ps : List Point) → chain inRange rises p ps ≡ true → InRange p
-range p ps e = in-range p (first-holds inRange rises p ps e)
+pub range-of : (p : Point) (ps : List Point) → chain inRange rises p ps ≡ true → InRange p
+range-of p ps e = in-range p (first-holds inRange rises p ps e)
 
 module _ (p q : Point) (ps : List Point) (e : chain inRange rises p (q ∷ ps) ≡ true) where
   pub rises-next : Rises p q
@@ -129,7 +129,7 @@ module _ (c : Curve) where
 
     module _ {last : Point} {i : ℕ} (r : Reached last i) where
       pub last-range : InRange last
-      last-range = range last (rest i) (r .rule)
+      last-range = range-of last (rest i) (r .rule)
 
       pub flat : c .count ≤ i → response mw c d ≡ mw * last .share
       unfolding shareFrom
@@ -146,7 +146,7 @@ module _ (c : Curve) where
         next-rises = rises-next last q (rest (i + 1)) rule-there
 
         pub next-range : InRange q
-        next-range = range q (rest (i + 1)) (rule-next last q (rest (i + 1)) rule-there)
+        next-range = range-of q (rest (i + 1)) (rule-next last q (rest (i + 1)) rule-there)
 
         pub here : d < q .deviation → response mw c d ≡ responseTo mw (between last q d)
         unfolding shareFrom

@@ -15,7 +15,7 @@ use Rattle.common.proofs.Tests.{both-true, by-test}
 use Rattle.energy.specs.Curve.{blank, between, shareFrom, shareAt, responseTo, InSegment, response, inRange, rises, pointsRule, pointsOf, curveRule}
 use Rattle.energy.specs.declared.curve.Point.{Point}
 use Rattle.energy.specs.declared.curve.Curve.{Curve}
-use Rattle.energy.proofs.Points.{InRange, Rises, range, rises-next, rule-next, ruled}
+use Rattle.energy.proofs.Points.{InRange, Rises, range-of, rises-next, rule-next, ruled}
 use Rattle.energy.proofs.Rounding.{up-one, up-zero, up-exact, up-le}
 
 -- on the way from s up to t, which is at most 1,000, the share is at most 1,000
@@ -48,10 +48,10 @@ share-between p q d r i h l =
 
 share-from : (p : Point) (ps : List Point) (d : ℕ) → chain inRange rises p ps ≡ true → p .deviation ≤ d → Share (shareFrom p ps d)
 unfolding shareFrom
-share-from p [] d e h = let i = range p [] e in record { positive = omega arith; at-most = omega arith }
+share-from p [] d e h = let i = range-of p [] e in record { positive = omega arith; at-most = omega arith }
 share-from p (q ∷ ps) d e h =
     by-test Share (ltb d (q .deviation)) (between p q d) (shareFrom q ps d)
-    (λ t. share-between p q d (rises-next p q ps e) (range q ps (rule-next p q ps e)) h (ltb-true d (q .deviation) t))
+    (λ t. share-between p q d (rises-next p q ps e) (range-of q ps (rule-next p q ps e)) h (ltb-true d (q .deviation) t))
     (λ t. share-from q ps d (rule-next p q ps e) (ltb-false d (q .deviation) t))
 
 share-at : (ps : List Point) (d : ℕ) → pointsRule ps ≡ true → Share (shareAt ps d)

@@ -23,16 +23,16 @@ module _ (rs : List ℕ) where
       pub whole : s + sum (map f (drop i rs)) ≡ sum (map f rs)
       pub small : s ≤ 1000000 * i
 
-    pub none : Summed 0 0
-    none = record { whole = omega arith; small = omega arith }
+    pub nothing-summed : Summed 0 0
+    nothing-summed = record { whole = omega arith; small = omega arith }
 
     pub one-more : {i s : ℕ} → Summed i s → i < length rs → f (getD rs i 0) ≤ 1000000 → Summed (i + 1) (s + f (getD rs i 0))
     unfolding sum
     one-more {i} {s} m h le = record { whole = omega (arith, m .whole, ap (λ (l : List ℕ). sum (map f l)) (drop-next rs i 0 h)); small = omega arith }
 
-    pub all : {i s : ℕ} → Summed i s → length rs ≤ i → s ≡ sum (map f rs)
+    pub all-summed : {i s : ℕ} → Summed i s → length rs ≤ i → s ≡ sum (map f rs)
     unfolding sum
-    all {i} {s} m h = omega (arith, m .whole, ap (λ (l : List ℕ). sum (map f l)) (drop-of-length-le rs h))
+    all-summed {i} {s} m h = omega (arith, m .whole, ap (λ (l : List ℕ). sum (map f l)) (drop-of-length-le rs h))
 
   -- ---- both directions
 
@@ -57,8 +57,8 @@ module _ (rs : List ℕ) where
           long = h;
           within = omega arith;
           good = refl;
-          lows = none (λ (r : ℕ). responses low cs (lowDeviation r));
-          highs = none (λ (r : ℕ). responses high cs (highDeviation r));
+          lows = nothing-summed (λ (r : ℕ). responses low cs (lowDeviation r));
+          highs = nothing-summed (λ (r : ℕ). responses high cs (highDeviation r));
         }
 
     module _ {i low-sum high-sum : ℕ} (r : Read i low-sum high-sum) where
@@ -83,4 +83,4 @@ module _ (rs : List ℕ) where
       unfolding goodReadings every bound
       done h =
           let e : every isReading rs ≡ true = r .good ∙ (rw (drop-of-length-le rs {i = i} (omega arith))) in
-          rw (all _ (r .lows) (omega arith), all _ (r .highs) (omega arith), eq-eqb (length rs) 3600 (r .long), e)
+          rw (all-summed _ (r .lows) (omega arith), all-summed _ (r .highs) (omega arith), eq-eqb (length rs) 3600 (r .long), e)

@@ -1,7 +1,7 @@
 // The ledger's record, its rule and opening.
 ghost use mathlib.Core.Path.{_≡_};
 ghost use mathlib.Core.Bool.{cond, _&&_};
-ghost use Prim.Native.Nat.{_+_, _*_};
+ghost use Prim.Native.Nat.{_+_};
 ghost use lib.Dec.{leb, eqb};
 ghost use lib.IntN.{pos};
 ghost use Rattle.common.specs.Answer.{numberOf, isGiven, orBlank};
@@ -263,11 +263,10 @@ fn sum_of(bounds: [u32; 8]) -> u64
     total
 }
 
-// Bought and sold against the periods closed, delivered and taken against the sums of the bounds.
-fn totals_within(closed: u32, totals: Totals, low: u64, high: u64) -> bool
-    ensures { λ r. ⌜ r ≡ (leb (totals .bought) (10000000 * closed) && leb (totals .sold) (10000000 * closed) && leb (totals .delivered) low && leb (totals .taken) high) ⌝ }
+// Bought and sold against the most, delivered and taken against the sums of the bounds.
+fn totals_within(most: u64, totals: Totals, low: u64, high: u64) -> bool
+    ensures { λ r. ⌜ r ≡ (leb (totals .bought) most && leb (totals .sold) most && leb (totals .delivered) low && leb (totals .taken) high) ⌝ }
 {
-    let most = 10_000_000 * closed as u64;
     (totals.bought as u64 <= most)
         & (totals.sold as u64 <= most)
         & (totals.delivered as u64 <= low)
@@ -283,7 +282,7 @@ fn totals_hold(given: Record) -> bool
     let high_bounds = high.bounds;
     let totals = given.totals;
     totals_within(
-        given.closed,
+        10_000_000 * given.closed as u64,
         totals,
         sum_of(low_bounds),
         sum_of(high_bounds),

@@ -4,6 +4,12 @@ use Rattle.ledger_record.specs.Rule.{totalsRule}
 use Rattle.ledger_record.proofs.totals_hold.Statement.{statement}
 use Rattle.ledger_record.proofs.totals_hold.Tie as tie
 
+cast-totals-within : tie.Need-cast-totals-within
+cast-totals-within c = search needs
+
+mul-totals-within : tie.Need-mul-totals-within
+mul-totals-within c = search needs
+
 sum-of-requires : tie.Need-sum-of-requires
 sum-of-requires c κs = search needs
 
@@ -21,4 +27,11 @@ returns c =
 
 pub totals-hold-spec : {M : Type 1} → statement M
 totals-hold-spec =
-    tie.close (tie.spec sum-of-requires sum-of-requires-2 totals-within-requires returns)
+    tie.close
+    (tie.spec
+    cast-totals-within
+    mul-totals-within
+    sum-of-requires
+    sum-of-requires-2
+    totals-within-requires
+    returns)
