@@ -5,20 +5,23 @@ use crate::text::value_u32;
 use ledger_record::Entries;
 use ledger_record::Record;
 
+// A number of the record, or n where its key is the one that is put.
+fn put_at(key: u32, which: u32, n: u32, given: u32) -> u32 {
+    if key == which { n } else { given }
+}
+
 // The first eight numbers of a record.
 fn with_field(given: Record, which: u32, n: u32) -> Record {
     let mut record = given;
     let mut totals = given.totals;
-    match which {
-        0 => record.size = n,
-        1 => record.first = n,
-        2 => record.state = n,
-        3 => record.closed = n,
-        4 => totals.bought = n,
-        5 => totals.sold = n,
-        6 => totals.delivered = n,
-        _ => totals.taken = n,
-    }
+    record.size = put_at(0, which, n, given.size);
+    record.first = put_at(1, which, n, given.first);
+    record.state = put_at(2, which, n, given.state);
+    record.closed = put_at(3, which, n, given.closed);
+    totals.bought = put_at(4, which, n, totals.bought);
+    totals.sold = put_at(5, which, n, totals.sold);
+    totals.delivered = put_at(6, which, n, totals.delivered);
+    totals.taken = put_at(7, which, n, totals.taken);
     record.totals = totals;
     record
 }
