@@ -1,4 +1,4 @@
-// The few functions that cross between i64 and unsigned numbers. Above this crate signed numbers are compared and nothing else.
+// The few functions that cross between i64 and unsigned numbers. The crates above compare signed numbers and leave all else to them.
 ghost use mathlib.Core.Path.{_≡_};
 ghost use lib.IntN.{pos, _-ℤ_};
 ghost use Rattle.signed.specs.Sign.{above, below, nearest};
