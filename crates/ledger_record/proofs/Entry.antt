@@ -9,7 +9,7 @@ use lib.Dec.{leb, ltb, eqb}
 use lib.IntN.{ℤ, pos}
 use lib.ListN.{getD}
 use Rattle.common.specs.Lists.{every}
-use Rattle.common.specs.Periods.{periodsTo, ofPeriod}
+use Rattle.common.specs.Periods.{periodsTo}
 use Rattle.common.proofs.Periods.{every-next}
 use Rattle.terms.specs.Terms.{Q, REV, ER}
 use Rattle.terms.specs.declared.Quantities.{Quantities}

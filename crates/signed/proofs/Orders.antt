@@ -2,7 +2,7 @@
 use mathlib.Core.Path.{_≡_, refl, sym, ap, subst, _∙_}
 use mathlib.Core.Logic.{_⊎_, inl, inr}
 use mathlib.Core.Bool.{Bool, true, false, _&&_}
-use Prim.Native.Nat.{ℕ, suc, _+_, _≤_, _<_}
+use Prim.Native.Nat.{ℕ, _+_, _≤_, _<_}
 use native.Mathlib.Omega.{arith}
 use native.Mathlib.Decide.{decLt, decLe}
 use borrow.Author.Tests.{leb-false, ltb-false, eqb-true, le-leb, lt-leb, eq-eqb, ne-eqb, lt-ltb, le-ltb}
@@ -138,8 +138,3 @@ between-is low s size h p =
       leZ-leb (pos low) (pos s +ℤ p) (low + below p) (s + above p) (λ k. omega (arith, whole, sum (pos s) p)) (λ k. omega (arith, whole, sum (pos s) p)),
       leZ-leb (pos s +ℤ p) (pos size -ℤ pos h) (s + above p + h) (size + below p) (λ k. omega (arith, whole, sum (pos s) p, less (pos size) (pos h))) (λ k. omega (arith, whole, sum (pos s) p, less (pos size) (pos h))),
     )
-
--- 0 ≤ z ≤ most
-pub up-to-is : (z : ℤ) (most : ℕ) → within (pos 0) z (pos most) ≡ eqb (below z) 0 && leb (above z) most
-up-to-is (pos n) most = rw (leb·zero n)
-up-to-is (negsuc n) most = rw (ne-eqb (suc n) 0 (λ e. omega arith))
