@@ -83,10 +83,10 @@ struct Curve {
 fn curve_of(n: u32) -> Curve {
     let p = |deviation, share| Point { deviation, share };
     let blank = p(0, 0);
-    if n == 1 {
-        Curve { count: 3, points: [p(15, 0), p(200, 50), p(500, 1000), blank, blank] }
-    } else {
-        Curve { count: 2, points: [p(15, 0), p(200, 1000), blank, blank, blank] }
+    match n {
+        1 => Curve { count: 3, points: [p(15, 0), p(200, 50), p(500, 1000), blank, blank] },
+        3 => Curve { count: 5, points: [p(15, 0), p(200, 50), p(500, 400), p(1500, 700), p(3000, 1000)] },
+        _ => Curve { count: 2, points: [p(15, 0), p(200, 1000), blank, blank, blank] },
     }
 }
 
@@ -121,40 +121,118 @@ fn response(mw: u32, points: &[Point], deviation: u32) -> u32 {
     mw * last.share as u32
 }
 
-#[inline(always)]
-fn period_energy(low: [u32; 3], high: [u32; 3], curves: &[Curve; 3], readings: &[u16]) -> Result<(u32, u32), u64> {
+// What comes before the readings.
+fn refused(low: [u32; 3], high: [u32; 3], curves: &[Curve; 3], readings: &[u16]) -> Option<u64> {
     if quantity(low) > 1000 || quantity(high) > 1000 {
-        return Err(1);
+        return Some(1);
     }
     if !curves.iter().all(Curve::holds) {
-        return Err(5);
+        return Some(5);
     }
-    if readings.len() != 3600 {
-        return Err(6);
+    (readings.len() != 3600).then_some(6)
+}
+
+fn kwh(sum: u64) -> u32 {
+    ((sum + 7199) / 7200) as u32
+}
+
+// The plain way: a division for each service and reading.
+#[inline(always)]
+fn period_energy(low: [u32; 3], high: [u32; 3], curves: &[Curve; 3], readings: &[u16]) -> Result<(u32, u32), u64> {
+    if let Some(n) = refused(low, high, curves, readings) {
+        return Err(n);
     }
     let [dc, dm, dr] = [curves[0].points(), curves[1].points(), curves[2].points()];
     let all = |q: [u32; 3], d: u32| response(q[0], dc, d) + response(q[1], dm, d) + response(q[2], dr, d);
-    let (mut below, mut above) = (0u32, 0u32);
+    let (mut below, mut above) = (0u64, 0u64);
     for &r in readings {
         if !(47000..=53000).contains(&r) {
             return Err(6);
         }
         if r < 50000 {
-            below += all(low, 50000 - r as u32);
+            below += all(low, 50000 - r as u32) as u64;
         } else if 50000 < r {
-            above += all(high, r as u32 - 50000);
+            above += all(high, r as u32 - 50000) as u64;
         }
     }
-    Ok(((below + 7199) / 7200, (above + 7199) / 7200))
+    Ok((kwh(below), kwh(above)))
+}
+
+// ---- period energy in three passes, a sketch: no loop divides
+
+// Adds a direction's responses to each deviation up to most: along a segment the response is quotient + remainder / width, and
+// both rise by fixed steps.
+#[inline(never)]
+fn fill(q: [u32; 3], curves: &[Curve; 3], most: usize, table: &mut [u32; 3001]) {
+    for (mw, c) in q.into_iter().zip(curves) {
+        if mw == 0 {
+            continue;
+        }
+        let points = c.points();
+        for w in points.windows(2) {
+            let (p, n) = (w[0], w[1]);
+            let width = (n.deviation - p.deviation) as u32;
+            let step = mw * (n.share - p.share) as u32;
+            let (by, over) = (step / width, step % width);
+            let (mut quotient, mut remainder) = (mw * p.share as u32, 0);
+            for d in p.deviation as usize..(n.deviation as usize).min(most + 1) {
+                table[d] += quotient + (remainder > 0) as u32;
+                quotient += by;
+                remainder += over;
+                if remainder >= width {
+                    remainder -= width;
+                    quotient += 1;
+                }
+            }
+        }
+        let last = points[points.len() - 1];
+        for d in last.deviation as usize..most + 1 {
+            table[d] += mw * last.share as u32;
+        }
+    }
+}
+
+fn three_passes(low: [u32; 3], high: [u32; 3], curves: &[Curve; 3], readings: &[u16]) -> Result<(u32, u32), u64> {
+    if let Some(n) = refused(low, high, curves, readings) {
+        return Err(n);
+    }
+    let (mut least, mut most) = (50000u16, 50000u16);
+    for &r in readings {
+        least = least.min(r);
+        most = most.max(r);
+    }
+    if least < 47000 || most > 53000 {
+        return Err(6);
+    }
+    let (mut lows, mut highs) = ([0u32; 3001], [0u32; 3001]);
+    fill(low, curves, (50000 - least) as usize, &mut lows);
+    fill(high, curves, (most - 50000) as usize, &mut highs);
+    let (mut below, mut above) = (0u64, 0u64);
+    for &r in readings.iter().rev() {
+        let r = r as u32;
+        below += lows[(50000u32.saturating_sub(r) as usize).min(3000)] as u64;
+        above += highs[(r.saturating_sub(50000) as usize).min(3000)] as u64;
+    }
+    Ok((kwh(below), kwh(above)))
+}
+
+// ---- both, with their bounds in one number
+
+fn number_of(answer: Result<(u32, u32), u64>) -> u64 {
+    match answer {
+        Ok((low, high)) => low as u64 * 4294967296 + high as u64,
+        Err(n) => n,
+    }
 }
 
 #[inline(never)]
 fn plain_period(q: [u32; 3], curves: [u32; 3], readings: &[u16]) -> u64 {
-    let curves = [curve_of(curves[0]), curve_of(curves[1]), curve_of(curves[2])];
-    match period_energy(q, q, &curves, readings) {
-        Ok((low, high)) => low as u64 * 4294967296 + high as u64,
-        Err(n) => n,
-    }
+    number_of(period_energy(q, q, &curves.map(curve_of), readings))
+}
+
+#[inline(never)]
+fn sketched_period(q: [u32; 3], curves: [u32; 3], readings: &[u16]) -> u64 {
+    number_of(three_passes(q, q, &curves.map(curve_of), readings))
 }
 
 // ---- the terms check in plain Rust
@@ -544,6 +622,11 @@ fn calm(random: &mut Random) -> Vec<u16> {
     (0..3600).map(|_| 49980 + random.below(41) as u16).collect()
 }
 
+// Any reading at all.
+fn whole(random: &mut Random) -> Vec<u16> {
+    (0..3600).map(|_| 47000 + random.below(6001) as u16).collect()
+}
+
 // A text of the report that is not refused.
 fn text(random: &mut Random) -> Vec<u8> {
     let q = [random.below(300), random.below(300), 1 + random.below(300)];
@@ -570,7 +653,7 @@ const REPETITIONS: usize = 401;
 const PERIODS: usize = 25;
 
 // Microseconds for one of count.
-fn time(count: usize, f: &impl Fn(usize)) -> f64 {
+fn time(count: usize, f: &dyn Fn(usize)) -> f64 {
     let start = Instant::now();
     for i in 0..count {
         f(i);
@@ -583,34 +666,63 @@ fn sorted(mut xs: Vec<f64>) -> Vec<f64> {
     xs
 }
 
-fn compare(work: &str, of: &str, count: usize, ours: impl Fn(usize), theirs: impl Fn(usize)) {
-    let (mut a, mut b, mut ratios) = (Vec::new(), Vec::new(), Vec::new());
+// The proved code against each of the others, in turn.
+fn compare(work: &str, of: &str, count: usize, ours: impl Fn(usize), others: &[&dyn Fn(usize)]) {
+    let mut own = Vec::new();
+    let mut times = vec![Vec::new(); others.len()];
     for _ in 0..REPETITIONS {
-        let (x, y) = (time(count, &ours), time(count, &theirs));
-        a.push(x);
-        b.push(y);
-        ratios.push(x / y);
+        own.push(time(count, &ours));
+        for (all, other) in times.iter_mut().zip(others) {
+            all.push(time(count, other));
+        }
     }
-    let (a, b, ratios) = (sorted(a), sorted(b), sorted(ratios));
     let middle = REPETITIONS / 2;
-    println!(
-        "{:14} {:30} {:11.3} {:11.3} {:6.2}  {:.2} to {:.2}",
-        work, of, a[0], b[0], ratios[middle], ratios[middle / 2], ratios[middle + middle / 2]
-    );
+    print!("{:14} {:38} {:9.3}", work, of, sorted(own.clone())[0]);
+    for all in times {
+        let ratios = sorted(own.iter().zip(&all).map(|(x, y)| x / y).collect());
+        let least = sorted(all)[0];
+        let (low, high) = (ratios[middle / 2], ratios[middle + middle / 2]);
+        print!(" | {:9.3} {:6.3}  {:.3} to {:.3}", least, ratios[middle], low, high);
+    }
+    println!();
 }
 
+type Period = fn([u32; 3], [u32; 3], &[u16]) -> u64;
+
 fn periods(kinds: &[(&str, Vec<Vec<u16>>)]) {
-    for (name, periods) in kinds {
-        for (services, q) in [("three services", [40, 60, 100]), ("one service", [0, 0, 100])] {
-            for readings in periods {
-                assert_eq!(proved_period(q, [1, 2, 2], readings), plain_period(q, [1, 2, 2], readings));
-            }
-            let run = |f: fn([u32; 3], [u32; 3], &[u16]) -> u64| {
-                move |i: usize| {
-                    black_box(f(black_box(q), black_box([1, 2, 2]), black_box(&periods[i])));
+    for (shape, curves) in [("stock", [1, 2, 2]), ("rising", [3, 3, 3])] {
+        for (name, periods) in kinds {
+            for (services, q) in [("three", [40, 60, 100]), ("one", [0, 0, 100])] {
+                for readings in periods {
+                    let plain = plain_period(q, curves, readings);
+                    assert_eq!(proved_period(q, curves, readings), plain);
+                    assert_eq!(sketched_period(q, curves, readings), plain);
                 }
-            };
-            compare("period energy", &format!("{name}, {services}"), PERIODS, run(proved_period), run(plain_period));
+                let run = |f: Period| {
+                    move |i: usize| {
+                        black_box(f(black_box(q), black_box(curves), black_box(&periods[i])));
+                    }
+                };
+                let of = format!("{name}, {services}, {shape}");
+                compare("period energy", &of, PERIODS, run(proved_period), &[&run(plain_period), &run(sketched_period)]);
+            }
+        }
+    }
+}
+
+// Readings that are refused, and such at the ends of the range; quantities that are refused.
+fn odd_periods(random: &mut Random) {
+    for bad in [0u16, 46999, 47000, 53000, 53001, 65535] {
+        for at in [0, 1, 1799, 3598, 3599] {
+            let mut readings = whole(random);
+            readings[at] = bad;
+            for (q, curves) in [([40, 60, 100], [1, 2, 3]), ([0, 0, 1000], [3, 3, 3]), ([0, 0, 0], [1, 1, 1]), ([0, 1, 1000], [1, 1, 1])] {
+                for count in [3600, 3599, 0] {
+                    let plain = plain_period(q, curves, &readings[..count]);
+                    assert_eq!(proved_period(q, curves, &readings[..count]), plain);
+                    assert_eq!(sketched_period(q, curves, &readings[..count]), plain);
+                }
+            }
         }
     }
 }
@@ -645,7 +757,7 @@ fn reports(random: &mut Random) {
                 black_box(f(black_box(&texts[i]), black_box(&mut output)));
             }
         };
-        compare("report", name, texts.len(), run(proved_report), run(plain_report));
+        compare("report", name, texts.len(), run(proved_report), &[&run(plain_report)]);
     }
 }
 
@@ -660,7 +772,7 @@ fn term_checks(random: &mut Random) {
                 black_box(f(black_box(&all[i])));
             }
         };
-        compare("terms check", name, all.len(), run(proved_terms), run(plain_terms));
+        compare("terms check", name, all.len(), run(proved_terms), &[&run(plain_terms)]);
     }
 }
 
@@ -700,7 +812,7 @@ fn closings(kinds: &[(&str, Vec<Vec<u16>>)]) {
                 black_box(f(black_box(unit), black_box(8), black_box(&all[i]), black_box(&periods[i])));
             }
         };
-        compare("eight closings", name, PERIODS, run(proved_closings), run(plain_closings));
+        compare("eight closings", name, PERIODS, run(proved_closings), &[&run(plain_closings)]);
     }
     // the record rule and the purchase, without the readings
     same_closings(unit, 8, &c(1000, 0, 0), &[], 0, 150_000);
@@ -710,16 +822,20 @@ fn closings(kinds: &[(&str, Vec<Vec<u16>>)]) {
             black_box(f(black_box(unit), black_box(8), black_box(&c), black_box(&[])));
         }
     };
-    compare("eight closings", "no readings: refused", 1000, run(proved_closings), run(plain_closings));
+    compare("eight closings", "no readings: refused", 1000, run(proved_closings), &[&run(plain_closings)]);
 }
 
 fn main() {
     let mut random = Random(1);
     let mut some = |f: fn(&mut Random) -> Vec<u16>| (0..PERIODS).map(|_| f(&mut random)).collect::<Vec<_>>();
-    let kinds = [("within 300 mHz", some(varied)), ("a slow walk", some(walk)), ("calm", some(calm))];
-    println!("{:14} {:30} {:>11} {:>11} {:>6}  {}", "work", "of", "Rattle, us", "Rust, us", "ratio", "middle half");
-    periods(&kinds);
-    closings(&kinds);
+    let within = [("within 300 mHz", some(varied)), ("a slow walk", some(walk)), ("calm", some(calm))];
+    let any = [("within 3,000 mHz", some(whole))];
+    let title = |of: &str| format!("| {:>9} {:>6}  {:14}", of, "ratio", "middle half");
+    println!("{:14} {:38} {:>9} {} {}", "work", "of", "Rattle, us", title("plain, us"), title("sketch"));
+    odd_periods(&mut random);
+    periods(&within);
+    periods(&any);
+    closings(&within);
     reports(&mut random);
     term_checks(&mut random);
 }

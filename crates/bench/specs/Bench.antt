@@ -1,6 +1,6 @@
 -- What the timing program links: period energy and closings over numbers. Assumes nothing.
 use mathlib.Core.Bool.{cond}
-use mathlib.Core.List.{List}
+use mathlib.Core.List.{List, [], _∷_}
 use Prim.Native.Nat.{ℕ, zero, suc, _+_, _*_}
 use lib.Dec.{eqb}
 use lib.IntN.{pos}
@@ -9,7 +9,7 @@ use Rattle.terms.specs.declared.Quantities.{Quantities}
 use Rattle.terms.specs.declared.Terms.{Terms}
 use Rattle.energy.specs.declared.curve.Curve.{Curve}
 use Rattle.energy.specs.declared.curve.Curves.{Curves}
-use Rattle.energy.specs.Curve.{containmentCurve, regulationCurve}
+use Rattle.energy.specs.Curve.{point, containmentCurve, regulationCurve}
 use Rattle.energy.specs.Period.{Bounds, periodEnergy}
 use Rattle.ledger_record.specs.declared.Record.{Record}
 use Rattle.ledger_record.specs.Opening.{blankRecord, opening}
@@ -18,9 +18,14 @@ use Rattle.ledger.specs.Calls.{Closing, closing}
 abbrev pub quantities : ℕ → ℕ → ℕ → Quantities
 quantities dc dm dr = record { dc = dc; dm = dm; dr = dr }
 
--- 1 is containment, any other number regulation
+-- (15, 0) (200, 50) (500, 400) (1500, 700) (3000, 1000)
+abbrev pub risingCurve : Curve
+risingCurve =
+    record { count = 5; points = point 15 0 ∷ point 200 50 ∷ point 500 400 ∷ point 1500 700 ∷ point 3000 1000 ∷ [] }
+
+-- 1 is containment, 3 a curve still rising at 3,000 mHz, any other number regulation
 abbrev pub curveOf : ℕ → Curve
-curveOf n = cond (eqb n 1) containmentCurve regulationCurve
+curveOf n = cond (eqb n 1) containmentCurve (cond (eqb n 3) risingCurve regulationCurve)
 
 abbrev pub curvesOf : ℕ → ℕ → ℕ → Curves
 curvesOf dc dm dr = record { dc = curveOf dc; dm = curveOf dm; dr = curveOf dr }

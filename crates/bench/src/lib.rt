@@ -1,10 +1,11 @@
-// What the timing program in bench/ links: period energy over numbers, with the stock curves chosen at run time, and closings.
+// What the timing program in bench/ links: period energy over numbers, with curves chosen at run time, and closings.
 ghost use mathlib.Core.Path.{_≡_};
 ghost use Prim.Native.Nat.{_+_, _*_};
 ghost use Rattle.ledger.specs.Calls.{closingWith};
 ghost use Rattle.bench.specs.Bench.{quantities, curveOf, curvesOf, periodNumber, openedRecord, closings, recordNumber};
 use energy::curve::Curve;
 use energy::curve::Curves;
+use energy::curve::Point;
 use energy::curve::containment_curve;
 use energy::curve::regulation_curve;
 use energy::period::PeriodEnergy;
@@ -13,14 +14,43 @@ use ledger_record::Record;
 use terms::Quantities;
 use terms::Terms;
 
+// Still rising at 3,000 mHz.
+const RISING: Curve = Curve {
+    count: 5,
+    points: [
+        Point {
+            deviation: 15,
+            share: 0,
+        },
+        Point {
+            deviation: 200,
+            share: 50,
+        },
+        Point {
+            deviation: 500,
+            share: 400,
+        },
+        Point {
+            deviation: 1500,
+            share: 700,
+        },
+        Point {
+            deviation: 3000,
+            share: 1000,
+        },
+    ],
+};
+
 fn curve_of(n: u32) -> Curve
     ensures { λ r. ⌜ r ≡ curveOf n ⌝ }
 {
     if n == 1 {
-        containment_curve()
-    } else {
-        regulation_curve()
+        return containment_curve();
     }
+    if n == 3 {
+        return RISING;
+    }
+    regulation_curve()
 }
 
 // Both bounds in one number, the low one times 2^32, or a refusal's number.

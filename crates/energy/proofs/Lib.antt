@@ -1,6 +1,5 @@
 pub mod Blocks
 pub mod Laws
-pub mod Numbers
 pub mod Parts
 pub mod Points
 pub mod Responses

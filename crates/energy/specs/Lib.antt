@@ -1,4 +1,4 @@
 pub mod Block
 pub mod Curve
-pub mod Numbers
 pub mod Period
+pub mod Table

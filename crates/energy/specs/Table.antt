@@ -1,0 +1,84 @@
+-- What the private functions of table.rt ask and make: a period's energy by a table of responses for each direction. Assumes
+-- nothing.
+use mathlib.Core.Path.{_≡_}
+use mathlib.Core.List.{List, [], _∷_, map}
+use Prim.Native.Nat.{ℕ, _+_, _-_, _*_, _/_, _^_, _≤_, _<_, max}
+use lib.ListN.{length, getD}
+use Rattle.common.specs.Lists.{sum}
+use Rattle.terms.specs.declared.Quantities.{Quantities}
+use Rattle.energy.specs.Period.{lowDeviation, highDeviation, responseSum}
+use Rattle.energy.specs.declared.curve.Point.{Point}
+use Rattle.energy.specs.declared.curve.Curves.{Curves}
+use Rattle.energy.specs.declared.table.Deviations.{Deviations}
+use Rattle.energy.specs.declared.table.Sums.{Sums}
+
+-- ---- the largest deviations
+
+-- the largest of some numbers, 0 where there is none
+unfoldable pub largest : List ℕ → ℕ
+largest [] = 0
+largest (n ∷ ns) = max n (largest ns)
+
+-- a direction's largest deviation
+abbrev pub reach : (ℕ → ℕ) → List ℕ → ℕ
+reach deviation rs = largest (map deviation rs)
+
+abbrev pub reaches : List ℕ → Deviations
+reaches rs = record { low = reach lowDeviation rs; high = reach highDeviation rs }
+
+-- ---- a table of responses: entry d is that to a deviation of d
+
+-- f was added to the entries from one on and below an end, and to no other
+pub record Added (from end : ℕ) (f : ℕ → ℕ) (before after : List ℕ) : Type 0 where
+  pub inside : (d : ℕ) → from ≤ d → d < end → getD after d 0 ≡ getD before d 0 + f d
+  pub below : (d : ℕ) → d < from → getD after d 0 ≡ getD before d 0
+  pub above : (d : ℕ) → end ≤ d → getD after d 0 ≡ getD before d 0
+
+-- as much more fits each entry
+abbrev pub Room : ℕ → List ℕ → Type 0
+Room more table = (d : ℕ) → getD table d 0 + more < 2 ^ 32
+
+-- a response that rises by steps, counted in parts of which 2^32 are a whole: the whole ones after x steps
+abbrev pub wholes : ℕ → ℕ → ℕ → ℕ
+wholes first step x = (first + step * x) / 2 ^ 32
+
+-- `fill`: the entries are there, the parts stay a u64, and what is added fits
+pub record FillFits (first step from end : ℕ) (table : List ℕ) : Type 0 where
+  pub there : end ≤ length table
+  pub parts-fit : first + step * (end - from) < 2 ^ 64
+  pub room : (d : ℕ) → from ≤ d → d < end → getD table d 0 + wholes first step (d - from) < 2 ^ 32
+
+-- `fill_segment`: two points as the rule has them, and room for 1,000 per mille of the rate
+pub record SegmentFits (rate : ℕ) (p q : Point) (end : ℕ) (table : List ℕ) : Type 0 where
+  pub rate-most : rate ≤ 1000000
+  pub farther : p .deviation < q .deviation
+  pub no-less : p .share ≤ q .share
+  pub deviation-most : q .deviation ≤ 3000
+  pub share-most : q .share ≤ 1000
+  pub there : end ≤ length table
+  pub room : Room (1000 * rate) table
+
+-- ---- sums over the readings
+
+-- what a table has for a direction's deviations, summed
+abbrev pub tableSum : (ℕ → ℕ) → List ℕ → List ℕ → ℕ
+tableSum deviation table rs = sum (map (λ (r : ℕ). getD table (deviation r) 0) rs)
+
+abbrev pub tableSums : List ℕ → List ℕ → List ℕ → Sums
+tableSums lows highs rs = record { low = tableSum lowDeviation lows rs; high = tableSum highDeviation highs rs }
+
+-- `sum_table`: every deviation is in its table, and the sums stay a u64
+pub record Covered (lows highs rs : List ℕ) : Type 0 where
+  pub low-there : reach lowDeviation rs < length lows
+  pub high-there : reach highDeviation rs < length highs
+  pub count-most : length rs ≤ 2 ^ 32
+
+abbrev pub responseSums : Quantities → Quantities → Curves → List ℕ → Sums
+responseSums low high cs rs = record { low = responseSum lowDeviation low cs rs; high = responseSum highDeviation high cs rs }
+
+-- `sum_responses`: the largest deviations are those of the readings, and neither is above 3,000
+pub record Reaching (most : Deviations) (rs : List ℕ) : Type 0 where
+  pub same : most ≡ reaches rs
+  pub low-most : most .low ≤ 3000
+  pub high-most : most .high ≤ 3000
+  pub count-most : length rs ≤ 2 ^ 32

@@ -1,0 +1,188 @@
+// Period energy in three passes: the largest deviations, a table of each direction's responses by deviation, and the sums.
+ghost use mathlib.Core.Path.{_≡_};
+ghost use mathlib.Core.Bool.{true};
+ghost use Prim.Native.Nat.{ℕ, _+_, _-_, _*_, _^_, _≤_, _<_, min, max};
+ghost use lib.ListN.{length};
+ghost use Rattle.terms.specs.Terms.{Q};
+ghost use Rattle.energy.specs.Curve.{pointsOf, curveRule, curvesRule, between, shareAt, responseTo};
+ghost use Rattle.energy.specs.Period.{highDeviation, responses, BeforeReadings};
+ghost use Rattle.energy.specs.Table.{reaches, Added, Room, wholes, FillFits, SegmentFits, tableSums, Covered, responseSums, Reaching};
+use crate::curve::Curve;
+use crate::curve::Curves;
+use crate::curve::Point;
+use terms::Quantities;
+
+// ---- the largest deviations
+
+// The largest deviation of each direction.
+pub(crate) struct Deviations {
+    pub(crate) low: u16,
+    pub(crate) high: u16,
+}
+
+fn smaller(a: u16, b: u16) -> u16
+    ensures { λ r. ⌜ r ≡ min a b ⌝ }
+{
+    if a < b { a } else { b }
+}
+
+fn larger(a: u16, b: u16) -> u16
+    ensures { λ r. ⌜ r ≡ max a b ⌝ }
+{
+    if a < b { b } else { a }
+}
+
+// By the least and the largest of 50,000 and the readings.
+pub(crate) fn largest_deviations(readings: &[u16]) -> Deviations
+    ensures { λ r. ⌜ r ≡ reaches (now (readings .entry)) ⌝ }
+{
+    let mut least: u16 = 50000;
+    let mut most: u16 = 50000;
+    let mut i: usize = 0;
+    while i < readings.len() {
+        let reading = readings[i];
+        least = smaller(least, reading);
+        most = larger(most, reading);
+        i += 1;
+    }
+    Deviations {
+        low: 50000 - least,
+        high: most - 50000,
+    }
+}
+
+// ---- a table of responses
+
+// Adds to each entry from one on the whole ones of some parts, which rise by a step from entry to entry.
+fn fill(first: u64, step: u64, from: usize, end: usize, table: &mut [u32])
+    requires { ⌜ FillFits first step from end (now table) ⌝ }
+    ensures { λ r. ⌜ Added from end (λ (d : ℕ). wholes first step (d - from)) (now (table .entry)) (now (table .exit)) ⌝ }
+{
+    let mut parts = first;
+    let mut d = from;
+    while d < end {
+        table[d] += (parts / 4294967296) as u32;
+        parts += step;
+        d += 1;
+    }
+}
+
+// A response in parts, all but one of a whole added, so that what is cut off rounds up.
+fn parts_of(response: u32) -> u64
+    ensures { λ r. ⌜ r ≡ response * 2 ^ 32 + (2 ^ 32 - 1) ⌝ }
+{
+    response as u64 * 4294967296 + 4294967295
+}
+
+fn nearer_end(end: usize, deviation: u16) -> usize
+    ensures { λ r. ⌜ r ≡ min end deviation ⌝ }
+{
+    let at = deviation as usize;
+    if end < at { end } else { at }
+}
+
+// Adds the responses between two points of a curve, at a rate for each per mille of share. The one division is that of the step:
+// the parts that it cuts off are too few, over 3,000 deviations, to change a response.
+fn fill_segment(rate: u32, p: Point, q: Point, end: usize, table: &mut [u32])
+    requires { ⌜ SegmentFits rate p q end (now table) ⌝ }
+    ensures { λ r. ⌜ Added (p .deviation) (min end (q .deviation)) (λ (d : ℕ). responseTo rate (between p q d)) (now (table .entry)) (now (table .exit)) ⌝ }
+{
+    let width = (q.deviation - p.deviation) as u64;
+    let rise = rate as u64 * (q.share - p.share) as u64;
+    fill(
+        parts_of(rate * p.share as u32),
+        rise * 4294967296 / width,
+        p.deviation as usize,
+        nearer_end(end, q.deviation),
+        table,
+    );
+}
+
+// Adds the responses of a service to each deviation below an end.
+fn fill_service(rate: u32, curve: Curve, end: usize, table: &mut [u32])
+    requires { ⌜ (rate ≤ 1000000) × (curveRule curve ≡ true) × (end ≤ length (now table)) × Room (1000 * rate) (now table) ⌝ }
+    ensures { λ r. ⌜ Added 0 end (λ (d : ℕ). responseTo rate (shareAt (pointsOf curve) d)) (now (table .entry)) (now (table .exit)) ⌝ }
+{
+    if rate == 0 {
+        return;
+    }
+    let count = curve.count as usize;
+    let mut last = curve.points[0];
+    let mut i: usize = 1;
+    while i < count {
+        let next = curve.points[i];
+        fill_segment(rate, last, next, end, table);
+        last = next;
+        i += 1;
+    }
+    fill(
+        parts_of(rate * last.share as u32),
+        0,
+        last.deviation as usize,
+        end,
+        table,
+    );
+}
+
+// Adds the responses of a direction's services to each deviation up to most.
+fn fill_direction(q: Quantities, curves: Curves, most: u16, table: &mut [u32])
+    requires { ⌜ (Q q ≤ 1000) × (curvesRule curves ≡ true) × (most < length (now table)) × Room (1000 * Q q) (now table) ⌝ }
+    ensures { λ r. ⌜ Added 0 (most + 1) (responses q curves) (now (table .entry)) (now (table .exit)) ⌝ }
+{
+    let end = most as usize + 1;
+    fill_service(q.dc, curves.dc, end, table);
+    fill_service(q.dm, curves.dm, end, table);
+    fill_service(q.dr, curves.dr, end, table);
+}
+
+// ---- the sums
+
+// What each direction's services respond to the readings, summed.
+pub(crate) struct Sums {
+    pub(crate) low: u64,
+    pub(crate) high: u64,
+}
+
+fn high_deviation(reading: u32) -> u32
+    ensures { λ r. ⌜ r ≡ highDeviation reading ⌝ }
+{
+    if 50000 < reading { reading - 50000 } else { 0 }
+}
+
+// What the tables have for the readings, from the last reading back. One deviation is tested for and the other is what is left:
+// two tests of a u16 become 16-bit code, which took three times as long.
+fn sum_table(lows: &[u32], highs: &[u32], readings: &[u16]) -> Sums
+    requires { ⌜ Covered (now lows) (now highs) (now readings) ⌝ }
+    ensures { λ r. ⌜ r ≡ tableSums (now (lows .entry)) (now (highs .entry)) (now (readings .entry)) ⌝ }
+{
+    let mut low: u64 = 0;
+    let mut high: u64 = 0;
+    let mut i = readings.len();
+    while 0 < i {
+        i -= 1;
+        let reading = readings[i] as u32;
+        let above = high_deviation(reading);
+        let below = 50000 + above - reading;
+        low += lows[below as usize] as u64;
+        high += highs[above as usize] as u64;
+    }
+    Sums { low, high }
+}
+
+// The sums of both directions' responses, by a table of each up to its largest deviation.
+pub(crate) fn sum_responses(
+    low: Quantities,
+    high: Quantities,
+    curves: Curves,
+    most: Deviations,
+    readings: &[u16],
+) -> Sums
+    requires { ⌜ BeforeReadings low high curves × Reaching most (now readings) ⌝ }
+    ensures { λ r. ⌜ r ≡ responseSums low high curves (now (readings .entry)) ⌝ }
+{
+    let mut lows = [0u32; 3001];
+    let mut highs = [0u32; 3001];
+    fill_direction(low, curves, most.low, &mut lows);
+    fill_direction(high, curves, most.high, &mut highs);
+    sum_table(&lows, &highs, readings)
+}
