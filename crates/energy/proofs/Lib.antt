@@ -1,4 +1,7 @@
 pub mod Blocks
+pub mod Filling
+pub mod FixedPoint
+pub mod Largest
 pub mod Laws
 pub mod Parts
 pub mod Points
@@ -6,3 +9,4 @@ pub mod Responses
 pub mod Rounding
 pub mod Shares
 pub mod Sums
+pub mod Tables

@@ -2,19 +2,18 @@
 use mathlib.Core.Path.{_≡_, subst, _∙_}
 use mathlib.Core.Bool.{true, false, _&&_}
 use mathlib.Core.List.{List, _∷_}
-use Prim.Native.Nat.{ℕ, _+_, _*_, _≤_, _<_}
-use native.Mathlib.Nat.{mul-zero, zero-mul}
+use Prim.Native.Nat.{ℕ, _+_, _≤_, _<_}
 use native.Mathlib.Omega.{arith}
 use borrow.Author.Tests.{le-leb, lt-leb, eq-eqb, ne-eqb, lt-ltb, le-ltb, leb-true, ltb-true}
 use lib.Dec.{leb, eqb}
 use lib.ListN.{length, drop, getD}
+use Rattle.common.specs.Fraction.{whole}
 use Rattle.common.specs.Lists.{chain}
 use Rattle.common.proofs.Chains.{next, none-left, link, onward, first-holds}
 use Rattle.common.proofs.Tests.{both-true}
-use Rattle.energy.specs.Curve.{blank, pointsOf, inRange, rises, pointsRule, curveRule, between, shareFrom, shareAt, responseTo, response}
+use Rattle.energy.specs.Curve.{blank, pointsOf, inRange, rises, pointsRule, curveRule, between, shareFrom, shareAt}
 use Rattle.energy.specs.declared.curve.Point.{Point}
 use Rattle.energy.specs.declared.curve.Curve.{Curve}
-use Rattle.energy.proofs.Rounding.{up-zero, up-one}
 
 -- ---- what the rule says
 
@@ -93,71 +92,59 @@ module _ (c : Curve) where
           same = rw (le-leb 2 (c .count) few, le-leb (c .count) 5 many, first few long, eq-eqb (at 0 .share) 0 h);
         }
 
-  -- ---- the loop of `respond`: the deviation is past the point `last`, and the points from the i-th on decide
+  -- ---- the loop of `fill_service`: from the point `last` on, the points from the i-th on decide the share
 
-  module _ (mw d : ℕ) where
-    pub record Reached (last : Point) (i : ℕ) : Type 0 where
-      pub within : i ≤ c .count
-      pub rule : chain inRange rises last (rest i) ≡ true
-      pub past : last .deviation ≤ d
-      pub same : response mw c d ≡ responseTo mw (shareFrom last (rest i) d)
+  pub record Reached (last : Point) (i : ℕ) : Type 0 where
+    pub rule : chain inRange rises last (rest i) ≡ true
+    pub same : (d : ℕ) → last .deviation ≤ d → shareAt (pointsOf c) d ≡ shareFrom last (rest i) d
 
-    pub no-quantity : mw ≡ 0 → response mw c d ≡ 0
-    unfolding response
-    no-quantity h = rw (h, zero-mul (shareAt (pointsOf c) d .numerator)) (up-zero (shareAt (pointsOf c) d .denominator))
+  module _ (rule : curveRule c ≡ true) (long : c .count ≤ length (c .points)) where
+    starting : rest 0 ≡ at 0 ∷ rest 1
+    starting = first (counted rule .0) long
 
-    module _ (rule : curveRule c ≡ true) (long : c .count ≤ length (c .points)) (p : Point) (found : p ≡ at 0) where
-      starting : rest 0 ≡ p ∷ rest 1
-      starting = rw found (first (counted rule .0) long)
+    started : pointsRule (at 0 ∷ rest 1) ≡ true
+    started = subst (λ (ps : List Point). pointsRule ps ≡ true) starting (ruled rule)
 
-      started : pointsRule (p ∷ rest 1) ≡ true
-      started = subst (λ (ps : List Point). pointsRule ps ≡ true) starting (ruled rule)
+    pub below-first : (d : ℕ) → d < at 0 .deviation → shareAt (pointsOf c) d ≡ whole 0
+    below-first d h = rw (starting, lt-ltb d (at 0 .deviation) h)
 
-      pub below-first : d < p .deviation → response mw c d ≡ 0
-      unfolding response
-      below-first h = rw (starting, lt-ltb d (p .deviation) h) (up-one (mw * 0) ∙ mul-zero mw)
+    pub reach-first : Reached (at 0) 1
+    reach-first =
+        record {
+          rule = both-true (eqb (at 0 .share) 0) (chain inRange rises (at 0) (rest 1)) started .1;
+          same = λ d h. rw (starting, le-ltb d (at 0 .deviation) h);
+        }
 
-      pub reach : p .deviation ≤ d → Reached p 1
-      unfolding response
-      reach h =
-          record {
-            within = omega (arith, counted rule);
-            rule = both-true (eqb (p .share) 0) (chain inRange rises p (rest 1)) started .1;
-            past = h;
-            same = rw (starting, le-ltb d (p .deviation) h);
-          }
+  module _ {last : Point} {i : ℕ} (r : Reached last i) where
+    pub last-range : InRange last
+    last-range = range-of last (rest i) (r .rule)
 
-    module _ {last : Point} {i : ℕ} (r : Reached last i) where
-      pub last-range : InRange last
-      last-range = range-of last (rest i) (r .rule)
+    pub flat : c .count ≤ i → (d : ℕ) → last .deviation ≤ d → shareAt (pointsOf c) d ≡ whole (last .share)
+    unfolding shareFrom
+    flat h d l = r .same d l ∙ (rw (none-left (c .count) (c .points) i h))
 
-      pub flat : c .count ≤ i → response mw c d ≡ mw * last .share
+    module _ (h : i < c .count) (long : c .count ≤ length (c .points)) where
+      following : rest i ≡ at i ∷ rest (i + 1)
+      following = next (c .count) (c .points) i blank h long
+
+      rule-there : chain inRange rises last (at i ∷ rest (i + 1)) ≡ true
+      rule-there = subst (λ (ps : List Point). chain inRange rises last ps ≡ true) following (r .rule)
+
+      pub next-rises : Rises last (at i)
+      next-rises = rises-next last (at i) (rest (i + 1)) rule-there
+
+      pub next-range : InRange (at i)
+      next-range = range-of (at i) (rest (i + 1)) (rule-next last (at i) (rest (i + 1)) rule-there)
+
+      pub here : (d : ℕ) → last .deviation ≤ d → d < at i .deviation → shareAt (pointsOf c) d ≡ between last (at i) d
       unfolding shareFrom
-      flat h = r .same ∙ (rw (none-left (c .count) (c .points) i h) (up-one (mw * last .share)))
+      here d l b = r .same d l ∙ (rw (following, lt-ltb d (at i .deviation) b))
 
-      module _ (h : i < c .count) (long : c .count ≤ length (c .points)) (q : Point) (found : q ≡ at i) where
-        following : rest i ≡ q ∷ rest (i + 1)
-        following = rw found (next (c .count) (c .points) i blank h long)
-
-        rule-there : chain inRange rises last (q ∷ rest (i + 1)) ≡ true
-        rule-there = subst (λ (ps : List Point). chain inRange rises last ps ≡ true) following (r .rule)
-
-        pub next-rises : Rises last q
-        next-rises = rises-next last q (rest (i + 1)) rule-there
-
-        pub next-range : InRange q
-        next-range = range-of q (rest (i + 1)) (rule-next last q (rest (i + 1)) rule-there)
-
-        pub here : d < q .deviation → response mw c d ≡ responseTo mw (between last q d)
-        unfolding shareFrom
-        here b = r .same ∙ (rw (following, lt-ltb d (q .deviation) b))
-
-        pub farther-on : q .deviation ≤ d → Reached q (i + 1)
-        unfolding shareFrom
-        farther-on b =
-            record {
-              within = omega arith;
-              rule = rule-next last q (rest (i + 1)) rule-there;
-              past = b;
-              same = r .same ∙ (rw (following, le-ltb d (q .deviation) b));
-            }
+      pub reach-next : Reached (at i) (i + 1)
+      unfolding shareFrom
+      reach-next =
+          let f = next-rises .farther in
+          record {
+            rule = rule-next last (at i) (rest (i + 1)) rule-there;
+            same = λ d b. r .same d (omega arith) ∙ (rw (following, le-ltb d (at i .deviation) b));
+          }

@@ -4,7 +4,7 @@ use mathlib.Core.Path.{_≡_, refl, ap}
 use mathlib.Core.Bool.{true, false≢true}
 use mathlib.Core.List.{List, [], _∷_}
 use Prim.Native.Nat.{ℕ, zero, suc, _+_, _-_, _*_, _≤_, _<_}
-use native.Mathlib.Nat.{add-mul, add-zero, sub-self, mul-assoc, mul-left-comm, mul-le-mul, mul-le-mul-left, mul-le-mul-right, mul-zero, zero-mul}
+use native.Mathlib.Nat.{add-mul, add-zero, sub-self, mul-assoc, mul-left-comm, mul-le-mul-left, mul-le-mul-right, mul-zero, zero-mul}
 use native.Mathlib.Omega.{arith}
 use borrow.Author.Tests.{lt-ltb, le-ltb, ltb-true, ltb-false, eqb-true}
 use lib.Dec.{ltb, eqb}
@@ -12,7 +12,7 @@ use lib.ListN.{length, getD}
 use Rattle.common.specs.Fraction.{Fraction, whole}
 use Rattle.common.specs.Lists.{chain}
 use Rattle.common.proofs.Tests.{both-true, by-test}
-use Rattle.energy.specs.Curve.{blank, between, shareFrom, shareAt, responseTo, InSegment, response, inRange, rises, pointsRule, pointsOf, curveRule}
+use Rattle.energy.specs.Curve.{blank, between, shareFrom, shareAt, responseTo, response, inRange, rises, pointsRule, pointsOf, curveRule}
 use Rattle.energy.specs.declared.curve.Point.{Point}
 use Rattle.energy.specs.declared.curve.Curve.{Curve}
 use Rattle.energy.proofs.Points.{InRange, Rises, range-of, rises-next, rule-next, ruled}
@@ -23,15 +23,6 @@ line-le : (s t w x : ℕ) → s ≤ t → t ≤ 1000 → x ≤ w → s * w + (t 
 line-le s t w x st t1 xw =
     let up : s + (t - s) ≡ t = omega arith in
     omega (arith, mul-le-mul-left (t - s) xw, add-mul s (t - s) w, ap (λ (n : ℕ). n * w) up, mul-le-mul-right w t1)
-
--- ---- what `response_between` computes is far below 2^32
-
-module _ {mw : ℕ} {p q : Point} {d : ℕ} (h : InSegment mw p q d) where
-  pub numerator-le : between p q d .numerator ≤ 3000000
-  numerator-le = omega (arith, line-le (p .share) (q .share) (q .deviation - p .deviation) (d - p .deviation) (h .no-less) (h .share-most) (omega arith))
-
-  pub product-le : mw * between p q d .numerator ≤ 3000000000
-  product-le = mul-le-mul (h .mw-most) numerator-le
 
 -- ---- the share as a fraction
 
