@@ -1,3 +1,4 @@
+pub mod Backward
 pub mod Blocks
 pub mod Filling
 pub mod FixedPoint
@@ -7,6 +8,8 @@ pub mod Parts
 pub mod Points
 pub mod Responses
 pub mod Rounding
+pub mod Segments
+pub mod Services
 pub mod Shares
 pub mod Sums
 pub mod Tables

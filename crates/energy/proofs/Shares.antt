@@ -111,15 +111,19 @@ at-point mw (p ∷ ps) i e h =
 
 -- ---- responses
 
+-- at a rate for each per mille, at most 1,000 times the rate
+response-to-le : (rate : ℕ) {f : Fraction} → Share f → responseTo rate f ≤ 1000 * rate
+response-to-le rate {f} s =
+    let p : rate * f .numerator ≤ 1000 * rate * f .denominator = rw (mul-assoc, ← mul-left-comm rate 1000 (f .denominator)) (mul-le-mul-left rate (s .at-most)) in
+    up-le (rate * f .numerator) (f .denominator) (1000 * rate) (s .positive) p
+
+pub between-le : (rate : ℕ) (p q : Point) (d : ℕ) → Rises p q → InRange q → p .deviation ≤ d → d < q .deviation → responseTo rate (between p q d) ≤ 1000 * rate
+between-le rate p q d r i h l = response-to-le rate (share-between p q d r i h l)
+
 module _ (mw : ℕ) (c : Curve) (rule : curveRule c ≡ true) where
-  -- at most 1,000 kW for each MW
   pub response-le : (d : ℕ) → response mw c d ≤ 1000 * mw
   unfolding response
-  response-le d =
-      let s = share-at (pointsOf c) d (ruled c rule) in
-      let f = shareAt (pointsOf c) d in
-      let p : mw * f .numerator ≤ 1000 * mw * f .denominator = rw (mul-assoc, ← mul-left-comm mw 1000 (f .denominator)) (mul-le-mul-left mw (s .at-most)) in
-      up-le (mw * f .numerator) (f .denominator) (1000 * mw) (s .positive) p
+  response-le d = response-to-le mw (share-at (pointsOf c) d (ruled c rule))
 
   pub response-zero : response mw c 0 ≡ 0
   unfolding response

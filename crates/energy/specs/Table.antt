@@ -48,7 +48,7 @@ pub record FillFits (first step from end : ℕ) (table : List ℕ) : Type 0 wher
   pub parts-fit : first + step * (end - from) < 2 ^ 64
   pub room : (d : ℕ) → from ≤ d → d < end → getD table d 0 + wholes first step (d - from) < 2 ^ 32
 
--- `fill_segment`: two points as the rule has them, and room for 1,000 per mille of the rate
+-- `fill_segment`: two points as the rule has them, and from the first on room for 1,000 per mille of the rate
 pub record SegmentFits (rate : ℕ) (p q : Point) (end : ℕ) (table : List ℕ) : Type 0 where
   pub rate-most : rate ≤ 1000000
   pub farther : p .deviation < q .deviation
@@ -56,7 +56,7 @@ pub record SegmentFits (rate : ℕ) (p q : Point) (end : ℕ) (table : List ℕ)
   pub deviation-most : q .deviation ≤ 3000
   pub share-most : q .share ≤ 1000
   pub there : end ≤ length table
-  pub room : Room (1000 * rate) table
+  pub room : (d : ℕ) → p .deviation ≤ d → getD table d 0 + 1000 * rate < 2 ^ 32
 
 -- ---- sums over the readings
 
