@@ -1,6 +1,6 @@
 -- A period's sums, by table and by response, and the answer that they give. Assumes nothing.
 use mathlib.Core.Path.{_≡_, refl, _∙_}
-use mathlib.Core.Bool.{not, _||_}
+use mathlib.Core.Bool.{Bool, true, false, not, _&&_, _||_}
 use mathlib.Core.List.{List, [], _∷_, map}
 use Prim.Native.Nat.{ℕ, _+_, _≤_}
 use native.Mathlib.Omega.{arith}
@@ -18,15 +18,19 @@ use Rattle.energy.proofs.Largest.{verdict}
 use Rattle.energy.proofs.Tables.{zeros-at}
 
 -- where a table of zeros got f up to the largest deviation
-pub by-table : (deviation f : ℕ → ℕ) {n most : ℕ} (table : List ℕ) → Added 0 (most + 1) f (replicate n 0) table → (rs : List ℕ) → reach deviation rs ≤ most →
+pub by-table : (deviation f : ℕ → ℕ) (n : ℕ) {most : ℕ} (table : List ℕ) → Added 0 (most + 1) f (replicate n 0) table → (rs : List ℕ) → reach deviation rs ≤ most →
     tableSum deviation table rs ≡ sum (map (λ (r : ℕ). f (deviation r)) rs)
 unfolding sum largest
-by-table deviation f table a [] h = refl
-by-table deviation f {n} table a (r ∷ rs) h =
+by-table deviation f n table a [] h = refl
+by-table deviation f n table a (r ∷ rs) h =
     let e : getD table (deviation r) 0 ≡ f (deviation r) = omega (arith, a .inside (deviation r) (omega arith) (omega arith), zeros-at n (deviation r)) in
-    rw (e, by-table deviation f table a rs (omega arith))
+    rw (e, by-table deviation f n table a rs (omega arith))
 
 -- ---- the answer
+
+not-both : (a b : Bool) → not (a && b) ≡ not a || not b
+not-both true b = refl
+not-both false b = refl
 
 module _ (low high : Quantities) (cs : Curves) (rs : List ℕ) where
   pub wrong-count : (length rs ≡ 3600 → ⊥) → refused 6 ≡ fromReadings low high cs rs
@@ -37,4 +41,5 @@ module _ (low high : Quantities) (cs : Curves) (rs : List ℕ) where
   pub by-tests : length rs ≡ 3600 →
       fromReadings low high cs rs ≡ checked (cause 6 (ltb 3000 (reach lowDeviation rs) || ltb 3000 (reach highDeviation rs)) ∷ []) (boundsOf low high cs rs)
   unfolding goodReadings
-  by-tests h = ?
+  by-tests h =
+      rw (eq-eqb (length rs) 3600 h, verdict rs, not-both (leb (reach lowDeviation rs) 3000) (leb (reach highDeviation rs) 3000), not-leb (reach lowDeviation rs) 3000, not-leb (reach highDeviation rs) 3000)

@@ -1,0 +1,148 @@
+-- `energy::table::sum_table` meets its contract. The loop's invariant is `Summed`. Assumes nothing.
+use mathlib.Core.Path.{_≡_}
+use Prim.Native.Nat.{ℕ, _+_, _-_, _^_, _<_}
+use native.Mathlib.Omega.{arith}
+use borrow.Author.Needs.{needs}
+use lib.ListN.{length, getD}
+use Rattle.energy.specs.Period.{lowDeviation, highDeviation}
+use Rattle.energy.proofs.Backward.{Summed, entry, begin, fits, step, done}
+use Rattle.energy.proofs.Largest.{entry-le}
+use Rattle.energy.proofs.table.sum_table.Statement.{statement}
+use Rattle.energy.proofs.table.sum_table.Tie as tie
+
+abbrev Inv-loop : tie.InvT-loop
+Inv-loop lows highs readings low₀ high₀ i₀ low high i = Summed lows highs readings i low high
+
+abbrev μ-loop : tie.MeasureT-loop
+μ-loop lows highs readings low₀ high₀ i₀ low high i = i
+
+abbrev start : tie.At-loop Inv-loop μ-loop → tie.Start Inv-loop μ-loop
+start l = l .before .before .before .before
+
+-- in a turn: the reading, where it stands, and the two deviations
+abbrev reading : tie.In-loop Inv-loop μ-loop → ℕ
+reading t = getD (start (t .before) .args .readings .now) (t .before .loop .i - 1) 0
+
+within : (t : tie.In-loop Inv-loop μ-loop) → t .before .loop .i - 1 < length (start (t .before) .args .readings .now)
+within t = omega (arith, t .loop-test .taken, t .before .loop .inv .within)
+
+low-is : (c : tie.After-high-deviation Inv-loop μ-loop) → 50000 + c .high-deviation .result - reading (c .before .before) ≡ lowDeviation (reading (c .before .before))
+low-is c = omega (arith, c .high-deviation .ensures)
+
+low-there : (t : tie.In-loop Inv-loop μ-loop) → lowDeviation (reading t) < length (start (t .before) .args .lows .now)
+low-there t = let s = start (t .before) in omega (arith, entry-le lowDeviation (s .args .readings .now) (t .before .loop .i - 1) (within t), s .pre .low-there)
+
+high-there : (t : tie.In-loop Inv-loop μ-loop) → highDeviation (reading t) < length (start (t .before) .args .highs .now)
+high-there t = let s = start (t .before) in omega (arith, entry-le highDeviation (s .args .readings .now) (t .before .loop .i - 1) (within t), s .pre .high-there)
+
+-- what is read there is below 2^32
+low-small : (c : tie.After-shared-slice-known5 Inv-loop μ-loop) →
+    let t = c .before .before .before in
+    entry lowDeviation (start (t .before) .args .lows .now) (reading t) < 2 ^ 32
+low-small c = omega (arith, c .shared-slice-known5 .given (lowDeviation (reading (c .before .before .before))))
+
+high-small : (c : tie.After-shared-slice-known6 Inv-loop μ-loop) →
+    let t = c .before .before .before .before in
+    entry highDeviation (start (t .before) .args .highs .now) (reading t) < 2 ^ 32
+high-small c = omega (arith, c .shared-slice-known6 .given (highDeviation (reading (c .before .before .before .before))))
+
+loop-holds : tie.Need-loop-holds Inv-loop μ-loop
+loop-holds c = begin _ _ _
+
+sub-i : tie.Need-sub-i Inv-loop μ-loop
+sub-i c = omega (arith, c .loop-test .taken)
+
+mul-reading : tie.Need-mul-reading Inv-loop μ-loop
+mul-reading c = omega (arith, within c, start (c .before) .pre .count-most)
+
+shared-slice-read-reading : tie.Need-shared-slice-read-reading Inv-loop μ-loop
+shared-slice-read-reading c = within (c .before)
+
+cast-reading : tie.Need-cast-reading Inv-loop μ-loop
+cast-reading c = omega (arith, c .shared-slice-known4 .given (c .before .before .loop .i - 1))
+
+high-deviation-requires : tie.Need-high-deviation-requires Inv-loop μ-loop
+high-deviation-requires c κs = search needs
+
+add-below : tie.Need-add-below Inv-loop μ-loop
+add-below c = omega (arith, c .high-deviation .ensures, c .before .shared-slice-known4 .given (c .before .before .before .loop .i - 1))
+
+sub-below : tie.Need-sub-below Inv-loop μ-loop
+sub-below c = omega (arith, c .high-deviation .ensures)
+
+cast-low : tie.Need-cast-low Inv-loop μ-loop
+cast-low c = omega (arith, low-is c)
+
+mul-low : tie.Need-mul-low Inv-loop μ-loop
+mul-low c = omega (arith, low-is c)
+
+shared-slice-read-low : tie.Need-shared-slice-read-low Inv-loop μ-loop
+shared-slice-read-low c = rw (low-is (c .before)) (low-there (c .before .before .before))
+
+cast-low-2 : tie.Need-cast-low-2 Inv-loop μ-loop
+cast-low-2 c = rw (low-is (c .before)) (omega (arith, low-small c))
+
+add-low : tie.Need-add-low Inv-loop μ-loop
+add-low c =
+    let t = c .before .before .before in
+    let i = t .before .loop .inv in
+    rw (low-is (c .before)) (record { fits = fits _ _ (i .low-back) (t .loop-test .taken) (i .within) (low-small c) (start (t .before) .pre .count-most) })
+
+cast-high : tie.Need-cast-high Inv-loop μ-loop
+cast-high c = omega (arith, c .before .high-deviation .ensures, c .before .before .shared-slice-known4 .given (c .before .before .before .before .loop .i - 1))
+
+mul-high : tie.Need-mul-high Inv-loop μ-loop
+mul-high c = omega (arith, c .before .high-deviation .ensures, c .before .before .shared-slice-known4 .given (c .before .before .before .before .loop .i - 1))
+
+shared-slice-read-high : tie.Need-shared-slice-read-high Inv-loop μ-loop
+shared-slice-read-high c = let h = c .before .before in rw (h .high-deviation .ensures) (high-there (h .before .before))
+
+cast-high-2 : tie.Need-cast-high-2 Inv-loop μ-loop
+cast-high-2 c = rw (c .before .before .high-deviation .ensures) (omega (arith, high-small c))
+
+add-high : tie.Need-add-high Inv-loop μ-loop
+add-high c =
+    let h = c .before .before in
+    let t = h .before .before in
+    let i = t .before .loop .inv in
+    rw (h .high-deviation .ensures) (record { fits = fits _ _ (i .high-back) (t .loop-test .taken) (i .within) (high-small c) (start (t .before) .pre .count-most) })
+
+loop-less : tie.Need-loop-less Inv-loop μ-loop
+loop-less c = let t = c .before .before .before .before in omega (arith, t .loop-test .taken)
+
+loop-again : tie.Need-loop-again Inv-loop μ-loop
+loop-again c =
+    let h = c .before .before in
+    let t = h .before .before in
+    rw (low-is h, h .high-deviation .ensures) (step _ _ _ (t .before .loop .inv) (t .loop-test .taken) (low-small (c .before)) (high-small c))
+
+returns : tie.Need-returns Inv-loop μ-loop
+returns c = done _ _ _ (c .before .loop .inv) (c .loop-test .left)
+
+pub sum-table-spec : {M : Type 1} → statement M
+sum-table-spec =
+    tie.close
+    (tie.spec
+    Inv-loop
+    μ-loop
+    loop-holds
+    sub-i
+    mul-reading
+    shared-slice-read-reading
+    cast-reading
+    high-deviation-requires
+    add-below
+    sub-below
+    cast-low
+    mul-low
+    shared-slice-read-low
+    cast-low-2
+    add-low
+    cast-high
+    mul-high
+    shared-slice-read-high
+    cast-high-2
+    add-high
+    loop-less
+    loop-again
+    returns)
