@@ -1,5 +1,5 @@
 -- A period's sums, by table and by response, and the answer that they give. Assumes nothing.
-use mathlib.Core.Path.{_≡_, refl, _∙_}
+use mathlib.Core.Path.{_≡_, refl, ap}
 use mathlib.Core.Bool.{Bool, true, false, not, _&&_, _||_}
 use mathlib.Core.List.{List, [], _∷_, map}
 use Prim.Native.Nat.{ℕ, _+_, _≤_}
@@ -11,9 +11,10 @@ use Rattle.common.specs.Answer.{refused, cause, checked}
 use Rattle.common.specs.Lists.{sum}
 use Rattle.common.proofs.Tests.{not-leb}
 use Rattle.terms.specs.declared.Quantities.{Quantities}
-use Rattle.energy.specs.Period.{goodReadings, lowDeviation, highDeviation, boundsOf, fromReadings}
-use Rattle.energy.specs.Table.{largest, reach, Added, tableSum}
+use Rattle.energy.specs.Period.{goodReadings, lowDeviation, highDeviation, responses, boundsOf, fromReadings}
+use Rattle.energy.specs.Table.{largest, reach, Added, tableSum, tableSums, Covered, responseSums, Reaching}
 use Rattle.energy.specs.declared.curve.Curves.{Curves}
+use Rattle.energy.specs.declared.table.Deviations.{Deviations}
 use Rattle.energy.proofs.Largest.{verdict}
 use Rattle.energy.proofs.Tables.{zeros-at}
 
@@ -25,6 +26,31 @@ by-table deviation f n table a [] h = refl
 by-table deviation f n table a (r ∷ rs) h =
     let e : getD table (deviation r) 0 ≡ f (deviation r) = omega (arith, a .inside (deviation r) (omega arith) (omega arith), zeros-at n (deviation r)) in
     rw (e, by-table deviation f n table a rs (omega arith))
+
+-- ---- both directions
+
+module _ {most : Deviations} {rs : List ℕ} (h : Reaching most rs) where
+  low-reach : reach lowDeviation rs ≤ most .low
+  low-reach = omega (arith, ap (λ (d : Deviations). d .low) (h .same))
+
+  high-reach : reach highDeviation rs ≤ most .high
+  high-reach = omega (arith, ap (λ (d : Deviations). d .high) (h .same))
+
+  module _ (lows highs : List ℕ) where
+    pub covered : length lows ≡ 3001 → length highs ≡ 3001 → Covered lows highs rs
+    covered l m =
+        record {
+          low-there = omega (arith, low-reach, h .low-most);
+          high-there = omega (arith, high-reach, h .high-most);
+          count-most = h .count-most;
+        }
+
+    pub same-sums : (n : ℕ) (low high : Quantities) (cs : Curves) →
+        Added 0 (most .low + 1) (responses low cs) (replicate n 0) lows →
+        Added 0 (most .high + 1) (responses high cs) (replicate n 0) highs →
+        tableSums lows highs rs ≡ responseSums low high cs rs
+    same-sums n low high cs a b =
+        rw (by-table lowDeviation (responses low cs) n lows a rs low-reach, by-table highDeviation (responses high cs) n highs b rs high-reach)
 
 -- ---- the answer
 
