@@ -11,11 +11,13 @@ use Rattle.common.specs.Answer.{refused, cause, checked}
 use Rattle.common.specs.Lists.{sum}
 use Rattle.common.proofs.Tests.{not-leb}
 use Rattle.terms.specs.declared.Quantities.{Quantities}
-use Rattle.energy.specs.Period.{goodReadings, lowDeviation, highDeviation, responses, boundsOf, fromReadings}
-use Rattle.energy.specs.Table.{largest, reach, Added, tableSum, tableSums, Covered, responseSums, Reaching}
+use Rattle.energy.specs.Period.{goodReadings, lowDeviation, highDeviation, responses, boundsOf, BeforeReadings, fromReadings}
+use Rattle.energy.specs.Table.{largest, reach, reaches, Added, tableSum, tableSums, Covered, responseSums, Reaching}
 use Rattle.energy.specs.declared.curve.Curves.{Curves}
 use Rattle.energy.specs.declared.table.Deviations.{Deviations}
+use Rattle.energy.specs.declared.table.Sums.{Sums}
 use Rattle.energy.proofs.Largest.{verdict}
+use Rattle.energy.proofs.Responses.{response-sum-le}
 use Rattle.energy.proofs.Tables.{zeros-at}
 
 -- where a table of zeros got f up to the largest deviation
@@ -59,13 +61,19 @@ not-both true b = refl
 not-both false b = refl
 
 module _ (low high : Quantities) (cs : Curves) (rs : List ℕ) where
+  -- what both directions of at most 1,000 MW respond
+  pub sums-most : BeforeReadings low high cs → length rs ≡ 3600 → (sums : Sums) → sums ≡ responseSums low high cs rs → (sums .low ≤ 3600000000) × (sums .high ≤ 3600000000)
+  sums-most b long sums same =
+      rw same
+      (omega (arith, b .low-most, b .high-most, response-sum-le low cs (b .curves) lowDeviation rs long, response-sum-le high cs (b .curves) highDeviation rs long))
+
   pub wrong-count : (length rs ≡ 3600 → ⊥) → refused 6 ≡ fromReadings low high cs rs
   unfolding goodReadings
   wrong-count h = rw (ne-eqb (length rs) 3600 h)
 
   -- the cause as the code tests it
-  pub by-tests : length rs ≡ 3600 →
-      fromReadings low high cs rs ≡ checked (cause 6 (ltb 3000 (reach lowDeviation rs) || ltb 3000 (reach highDeviation rs)) ∷ []) (boundsOf low high cs rs)
+  pub by-tests : length rs ≡ 3600 → (most : Deviations) → most ≡ reaches rs →
+      fromReadings low high cs rs ≡ checked (cause 6 (ltb 3000 (most .low) || ltb 3000 (most .high)) ∷ []) (boundsOf low high cs rs)
   unfolding goodReadings
-  by-tests h =
-      rw (eq-eqb (length rs) 3600 h, verdict rs, not-both (leb (reach lowDeviation rs) 3000) (leb (reach highDeviation rs) 3000), not-leb (reach lowDeviation rs) 3000, not-leb (reach highDeviation rs) 3000)
+  by-tests h most same =
+      rw (same, eq-eqb (length rs) 3600 h, verdict rs, not-both (leb (reach lowDeviation rs) 3000) (leb (reach highDeviation rs) 3000), not-leb (reach lowDeviation rs) 3000, not-leb (reach highDeviation rs) 3000)
