@@ -8,24 +8,24 @@ use Rattle.common.specs.Fraction.{roundedUp}
 -- a line that rises by `rise` over the width n + 1: its value, rounded up, and the step in parts, rounded down
 module _ (whole start rise n x value step : ℕ)
     (step-le : step * suc n ≤ rise * whole)
-    (step-gt : rise * whole ≤ step * suc n + n)
+    (step-near : rise * whole ≤ step * suc n + n)
     (value-ge : start * suc n + rise * x ≤ value * suc n)
-    (value-le : value * suc n ≤ start * suc n + rise * x + n)
+    (value-near : value * suc n ≤ start * suc n + rise * x + n)
     (few : n * x < whole)
-    where
-  not-above : start * whole + step * x ≤ value * whole
-  not-above =
-      let p : suc n * (start * whole + step * x) ≤ suc n * (value * whole) = omega (arith, mul-le-mul-right x step-le, mul-le-mul-right whole value-ge) in
-      le-of-mul-le-mul-left p (omega arith)
+  where
+    not-above : start * whole + step * x ≤ value * whole
+    not-above =
+        let p : suc n * (start * whole + step * x) ≤ suc n * (value * whole) = omega (arith, mul-le-mul-right x step-le, mul-le-mul-right whole value-ge) in
+        le-of-mul-le-mul-left p (omega arith)
 
-  -- a step lacks at most n parts of the width, so x steps lack less than a whole
-  not-below : value * whole < start * whole + step * x + whole
-  not-below =
-      let p : suc n * (value * whole) < suc n * (start * whole + step * x + whole) = omega (arith, mul-le-mul-right x step-gt, mul-le-mul-right whole value-le) in
-      lt-of-mul-lt-mul-left (suc n) p
+    -- a step lacks at most n parts of the width, so x steps lack less than a whole
+    not-below : value * whole < start * whole + step * x + whole
+    not-below =
+        let p : suc n * (value * whole) < suc n * (start * whole + step * x + whole) = omega (arith, mul-le-mul-right x step-near, mul-le-mul-right whole value-near) in
+        lt-of-mul-lt-mul-left (suc n) p
 
-  value-is : (start * whole + (whole - 1) + step * x) / whole ≡ value
-  value-is = div-eq-of-lt-le whole (omega (arith, not-below)) (omega (arith, not-above))
+    value-is : (start * whole + (whole - 1) + step * x) / whole ≡ value
+    value-is = div-eq-of-lt-le whole (omega (arith, not-below)) (omega (arith, not-above))
 
 -- with all but one part of a whole added, cutting off rounds up
 pub line-value : (whole start rise width x : ℕ) → 0 < width → (width - 1) * x < whole →

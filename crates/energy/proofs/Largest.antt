@@ -1,5 +1,5 @@
 -- The largest of some numbers, and the largest deviations of some readings. Assumes nothing.
-use mathlib.Core.Path.{_≡_, refl, sym, ap, _∙_}
+use mathlib.Core.Path.{_≡_, refl, ap}
 use mathlib.Core.Bool.{Bool, true, false, _&&_, and-false}
 use mathlib.Core.List.{List, [], _∷_, map}
 use Prim.Native.Nat.{ℕ, zero, suc, _+_, _-_, _≤_, _<_, min, max}
@@ -79,21 +79,21 @@ leb-max a b n = by (decLe a n) (decLe b n)
     by (no p) q = rw (lt-leb a n (omega arith), lt-leb (max a b) n (omega arith))
     by (yes p) (no q) = rw (le-leb a n p, lt-leb b n (omega arith), lt-leb (max a b) n (omega arith))
 
-four : (a b c d : Bool) → (a && b) && (c && d) ≡ (a && c) && (b && d)
-four true b true d = refl
-four true b false d = and-false b
-four false b c d = refl
+regroup : (a b c d : Bool) → (a && b) && (c && d) ≡ (a && c) && (b && d)
+regroup true b true d = refl
+regroup true b false d = and-false b
+regroup false b c d = refl
 
-reading-is : (r : ℕ) → isReading r ≡ leb (lowDeviation r) 3000 && leb (highDeviation r) 3000
-reading-is r =
+within : (r : ℕ) → isReading r ≡ leb (lowDeviation r) 3000 && leb (highDeviation r) 3000
+within r =
     let low : leb 47000 r ≡ leb (lowDeviation r) 3000 = leb-same 47000 r (lowDeviation r) 3000 (λ h. omega arith) (λ h. omega arith) in
     let high : leb r 53000 ≡ leb (highDeviation r) 3000 = leb-same r 53000 (highDeviation r) 3000 (λ h. omega arith) (λ h. omega arith) in
     rw (low, high)
 
 -- a reading within 3,000 of 50,000 is good
-pub verdict : (rs : List ℕ) → every isReading rs ≡ leb (reach lowDeviation rs) 3000 && leb (reach highDeviation rs) 3000
+pub every-within : (rs : List ℕ) → every isReading rs ≡ leb (reach lowDeviation rs) 3000 && leb (reach highDeviation rs) 3000
 unfolding every largest
-verdict [] = refl
-verdict (r ∷ rs) =
-    rw (reading-is r, verdict rs, leb-max (lowDeviation r) (reach lowDeviation rs) 3000, leb-max (highDeviation r) (reach highDeviation rs) 3000)
-    (four (leb (lowDeviation r) 3000) (leb (highDeviation r) 3000) (leb (reach lowDeviation rs) 3000) (leb (reach highDeviation rs) 3000))
+every-within [] = refl
+every-within (r ∷ rs) =
+    rw (within r, every-within rs, leb-max (lowDeviation r) (reach lowDeviation rs) 3000, leb-max (highDeviation r) (reach highDeviation rs) 3000)
+    (regroup (leb (lowDeviation r) 3000) (leb (highDeviation r) 3000) (leb (reach lowDeviation rs) 3000) (leb (reach highDeviation rs) 3000))

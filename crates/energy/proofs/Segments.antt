@@ -2,7 +2,7 @@
 use mathlib.Core.Path.{_≡_, _∙_}
 use mathlib.Core.List.{List}
 use Prim.Native.Nat.{ℕ, _+_, _-_, _*_, _/_, _^_, _≤_, _<_, min}
-use native.Mathlib.Nat.{le-refl, mul-add, mul-assoc, mul-le-mul, mul-le-mul-left, div-mul-le-self}
+use native.Mathlib.Nat.{mul-add, mul-assoc, mul-le-mul, mul-le-mul-left, div-mul-le-self}
 use native.Mathlib.Omega.{arith}
 use Rattle.energy.specs.Curve.{between, responseTo}
 use Rattle.energy.specs.Table.{Added, wholes, FillFits, SegmentFits}
@@ -21,7 +21,7 @@ rise rate p q = rate * (q .share - p .share)
 abbrev pub first : ℕ → ℕ
 first start = start * 2 ^ 32 + (2 ^ 32 - 1)
 
-abbrev pub step : ℕ → Point → Point → ℕ
+abbrev step : ℕ → Point → Point → ℕ
 step rate p q = rise rate p q * 2 ^ 32 / width p q
 
 module _ {rate : ℕ} {p q : Point} {end : ℕ} {before : List ℕ} (h : SegmentFits rate p q end before) where
@@ -30,8 +30,8 @@ module _ {rate : ℕ} {p q : Point} {end : ℕ} {before : List ℕ} (h : Segment
       let s : p .share + (q .share - p .share) ≤ 1000 = omega (arith, h .no-less, h .share-most) in
       omega (arith, mul-add rate (p .share) (q .share - p .share), mul-le-mul (h .rate-most) s)
 
-  response-at : (d : ℕ) → p .deviation ≤ d → d < q .deviation → wholes (first (rate * p .share)) (step rate p q) (d - p .deviation) ≡ responseTo rate (between p q d)
-  response-at d l m =
+  added-at : (d : ℕ) → p .deviation ≤ d → d < q .deviation → wholes (first (rate * p .share)) (step rate p q) (d - p .deviation) ≡ responseTo rate (between p q d)
+  added-at d l m =
       let w : 0 < width p q = omega (arith, h .farther) in
       let narrow : width p q - 1 ≤ 3000 = omega (arith, h .deviation-most) in
       let near : d - p .deviation ≤ 3000 = omega (arith, h .deviation-most) in
@@ -45,10 +45,10 @@ module _ {rate : ℕ} {p q : Point} {end : ℕ} {before : List ℕ} (h : Segment
         there = omega (arith, h .there);
         parts-fit = omega (arith, top-le, mul-le-mul-left (step rate p q) x, div-mul-le-self (rise rate p q * 2 ^ 32) (width p q));
         room = λ d l m.
-            rw (response-at d l (omega arith))
+            rw (added-at d l (omega arith))
             (omega (arith, h .room d l, between-le rate p q d (record { farther = h .farther; no-less = h .no-less }) (record { deviation-le = h .deviation-most; share-le = h .share-most }) l (omega arith)));
       }
 
   pub filled : {after : List ℕ} → Added (p .deviation) (min end (q .deviation)) (λ (d : ℕ). wholes (first (rate * p .share)) (step rate p q) (d - p .deviation)) before after →
       Added (p .deviation) (min end (q .deviation)) (λ (d : ℕ). responseTo rate (between p q d)) before after
-  filled a = same-added a _ (λ d l m. response-at d l (omega arith))
+  filled a = same-added a _ (λ d l m. added-at d l (omega arith))

@@ -5,7 +5,7 @@ use mathlib.Core.List.{List}
 use Prim.Native.Nat.{ℕ, _+_, _-_, _*_, _^_, _≤_, _<_, min}
 use native.Mathlib.Nat.{le-refl, mul-le-mul, mul-zero, zero-mul}
 use native.Mathlib.Omega.{arith}
-use lib.ListN.{length, getD}
+use lib.ListN.{length}
 use Rattle.energy.specs.Curve.{pointsOf, curveRule, between, shareAt, responseTo}
 use Rattle.energy.specs.Table.{Added, Room, wholes, FillFits, SegmentFits}
 use Rattle.energy.specs.declared.curve.Point.{Point}

@@ -16,12 +16,12 @@ use Rattle.energy.specs.Table.{largest, reach, reaches, Added, tableSum,
 use Rattle.energy.specs.declared.curve.Curves.{Curves}
 use Rattle.energy.specs.declared.table.Deviations.{Deviations}
 use Rattle.energy.specs.declared.table.Sums.{Sums}
-use Rattle.energy.proofs.Largest.{verdict}
+use Rattle.energy.proofs.Largest.{every-within}
 use Rattle.energy.proofs.Responses.{response-sum-le}
 use Rattle.energy.proofs.Tables.{zeros-at}
 
 -- where a table of zeros got f up to the largest deviation
-pub by-table : (deviation f : ℕ → ℕ) (n : ℕ) {most : ℕ} (table : List ℕ) → Added 0 (most + 1) f (replicate n 0) table → (rs : List ℕ) → reach deviation rs ≤ most →
+by-table : (deviation f : ℕ → ℕ) (n : ℕ) {most : ℕ} (table : List ℕ) → Added 0 (most + 1) f (replicate n 0) table → (rs : List ℕ) → reach deviation rs ≤ most →
     tableSum deviation table rs ≡ sum (map (λ (r : ℕ). f (deviation r)) rs)
 unfolding sum largest
 by-table deviation f n table a [] h = refl
@@ -76,4 +76,4 @@ module _ (low high : Quantities) (cs : Curves) (rs : List ℕ) where
       fromReadings low high cs rs ≡ checked (cause 6 (ltb 3000 (most .low) || ltb 3000 (most .high)) ∷ []) (boundsOf low high cs rs)
   unfolding goodReadings
   by-tests h most same =
-      rw (same, eq-eqb (length rs) 3600 h, verdict rs, not-both (leb (reach lowDeviation rs) 3000) (leb (reach highDeviation rs) 3000), not-leb (reach lowDeviation rs) 3000, not-leb (reach highDeviation rs) 3000)
+      rw (same, eq-eqb (length rs) 3600 h, every-within rs, not-both (leb (reach lowDeviation rs) 3000) (leb (reach highDeviation rs) 3000), not-leb (reach lowDeviation rs) 3000, not-leb (reach highDeviation rs) 3000)

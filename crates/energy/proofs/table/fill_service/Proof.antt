@@ -18,6 +18,16 @@ abbrev μ-loop : tie.MeasureT-loop
 abbrev start : tie.At-loop Inv-loop μ-loop → tie.Start Inv-loop μ-loop
 start l = l .before .before .before .before
 
+abbrev this-turn : tie.After-slice-known2 Inv-loop μ-loop → tie.In-loop Inv-loop μ-loop
+this-turn c = c .before .before .before .before .before
+
+-- the call past the last point, and the loop's end before it
+abbrev parts : tie.After-fill Inv-loop μ-loop → tie.After-parts-of Inv-loop μ-loop
+parts g = g .before .before .before
+
+abbrev ended : tie.After-parts-of Inv-loop μ-loop → tie.After-loop Inv-loop μ-loop
+ended a = a .before .before
+
 points-there : (s : tie.Start Inv-loop μ-loop) → s .args .t2 .count ≤ length (s .args .t2 .points)
 points-there s =
     let five : length (s .args .t2 .points) ≡ 5 = sym (length-map (s .args .t2 .points) _) ∙ s .good .1 .0 .1 .1 .1 .0 .1 .0 .1 in
@@ -48,15 +58,15 @@ fill-segment-requires c κs =
     segment-fits _ _ _ _ (t .before .loop .inv) (t .loop-test .taken) (points-there s) (s .pre .0) (s .pre .2) (s .pre .3)
 
 add-i : tie.Need-add-i Inv-loop μ-loop
-add-i c = omega (arith, c .before .before .before .before .before .loop-test .taken)
+add-i c = omega (arith, this-turn c .loop-test .taken)
 
 loop-less : tie.Need-loop-less Inv-loop μ-loop
-loop-less c = omega (arith, c .before .before .before .before .before .loop-test .taken)
+loop-less c = omega (arith, this-turn c .loop-test .taken)
 
 loop-again : tie.Need-loop-again Inv-loop μ-loop
 loop-again c =
     let g = c .before .before in
-    let t = g .before .before .before in
+    let t = this-turn c in
     turn _ _ _ _ (t .before .loop .inv) (t .loop-test .taken) (points-there (start (t .before))) (g .fill-segment .kept .1 .1 .1 .1 .0) (g .fill-segment .ensures)
 
 cast-parts-of : tie.Need-cast-parts-of Inv-loop μ-loop
@@ -74,21 +84,20 @@ cast-fill c = search needs
 fill-requires : tie.Need-fill-requires Inv-loop μ-loop
 fill-requires c κs =
     let a = c .before .before in
-    let l = a .before .before .before in
+    let l = ended a .before in
     let s = start l in
     rw (a .parts-of .ensures) (fill-fits _ _ _ _ (l .loop .inv) (s .pre .0) (s .pre .2) (s .pre .3))
 
 same-length : tie.Need-same-length Inv-loop μ-loop
 same-length c =
     let g = c .before .before in
-    g .fill .kept .1 .1 .1 .1 .0 ∙ g .before .before .before .before .before .before .loop .inv .long
+    g .fill .kept .1 .1 .1 .1 .0 ∙ ended (parts g) .before .loop .inv .long
 
 returns-2 : tie.Need-returns-2 Inv-loop μ-loop
 returns-2 c =
     let g = c .before .before in
-    let a = g .before .before .before in
-    let e = a .before .before in
-    done _ _ _ _ (e .before .loop .inv) (e .loop-test .left) (rw (a .parts-of .ensures) at (g .fill .ensures))
+    let e = ended (parts g) in
+    done _ _ _ _ (e .before .loop .inv) (e .loop-test .left) (rw (parts g .parts-of .ensures) at (g .fill .ensures))
 
 pub fill-service-spec : {M : Type 1} → statement M
 fill-service-spec =

@@ -1,7 +1,7 @@
 -- `energy::table::sum_responses` meets its contract: the tables have the responses to every deviation that occurs. Assumes nothing.
-use mathlib.Core.Path.{_≡_, _∙_}
-use Prim.Native.Nat.{ℕ}
+use mathlib.Core.Path.{_∙_}
 use mathlib.Core.List.{List}
+use Prim.Native.Nat.{ℕ}
 use native.Mathlib.Omega.{arith}
 use borrow.Author.Needs.{needs}
 use Rattle.energy.proofs.Sums.{covered, same-sums}
