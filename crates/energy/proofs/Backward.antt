@@ -34,6 +34,9 @@ module _ (f : ℕ → ℕ) (rs : List ℕ) where
     pub fits : length rs ≤ 2 ^ 32 → s + f (getD rs (i - 1) 0) < 2 ^ 64
     fits count = omega (arith, b .small)
 
+  all-summed : {i s : ℕ} → Back i s → i ≤ 0 → s ≡ sum (map f rs)
+  all-summed {i} b h = let e : i ≡ 0 = omega arith in b .same ∙ ap (λ (k : ℕ). sum (map f (drop k rs))) e
+
 -- ---- the loop of `sum_table`: both directions, each by its table
 
 abbrev pub entry : (ℕ → ℕ) → List ℕ → ℕ → ℕ
@@ -46,7 +49,12 @@ module _ (lows highs rs : List ℕ) where
     pub high-back : Back (entry highDeviation highs) rs i high
 
   pub begin : Summed (length rs) 0 0
-  begin = record { within = omega arith; low-back = none-summed (entry lowDeviation lows) rs; high-back = none-summed (entry highDeviation highs) rs }
+  begin =
+      record {
+        within = omega arith;
+        low-back = none-summed (entry lowDeviation lows) rs;
+        high-back = none-summed (entry highDeviation highs) rs;
+      }
 
   module _ {i low high : ℕ} (s : Summed i low high) where
     pub step : 0 < i →
@@ -60,8 +68,4 @@ module _ (lows highs rs : List ℕ) where
         }
 
     pub done : i ≤ 0 → record { low = low; high = high } ≡ tableSums lows highs rs
-    done h =
-        let e : i ≡ 0 = omega arith in
-        let l : low ≡ sum (map (entry lowDeviation lows) rs) = s .low-back .same ∙ ap (λ (k : ℕ). sum (map (entry lowDeviation lows) (drop k rs))) e in
-        let m : high ≡ sum (map (entry highDeviation highs) rs) = s .high-back .same ∙ ap (λ (k : ℕ). sum (map (entry highDeviation highs) (drop k rs))) e in
-        rw (l, m)
+    done h = rw (all-summed (entry lowDeviation lows) rs (s .low-back) h, all-summed (entry highDeviation highs) rs (s .high-back) h)

@@ -36,7 +36,16 @@ module _ {rate : ℕ} {p q : Point} {end : ℕ} {before : List ℕ} (h : Segment
       let narrow : width p q - 1 ≤ 3000 = omega (arith, h .deviation-most) in
       let near : d - p .deviation ≤ 3000 = omega (arith, h .deviation-most) in
       line-value (2 ^ 32) (rate * p .share) (rise rate p q) (width p q) (d - p .deviation) w (omega (arith, mul-le-mul narrow near))
-      ∙ (rw (mul-add rate (p .share * width p q) ((q .share - p .share) * (d - p .deviation)), mul-assoc rate (p .share) (width p q), mul-assoc rate (q .share - p .share) (d - p .deviation)))
+      ∙ (rw (
+        mul-add rate (p .share * width p q) ((q .share - p .share) * (d - p .deviation)),
+        mul-assoc rate (p .share) (width p q),
+        mul-assoc rate (q .share - p .share) (d - p .deviation),
+      ))
+
+  added-le : (d : ℕ) → p .deviation ≤ d → d < q .deviation → wholes (first (rate * p .share)) (step rate p q) (d - p .deviation) ≤ 1000 * rate
+  added-le d l m =
+      rw (added-at d l m)
+      (between-le rate p q d (record { farther = h .farther; no-less = h .no-less }) (record { deviation-le = h .deviation-most; share-le = h .share-most }) l m)
 
   pub fill-fits : FillFits (first (rate * p .share)) (step rate p q) (p .deviation) (min end (q .deviation)) before
   fill-fits =
@@ -44,11 +53,10 @@ module _ {rate : ℕ} {p q : Point} {end : ℕ} {before : List ℕ} (h : Segment
       record {
         there = omega (arith, h .there);
         parts-fit = omega (arith, top-le, mul-le-mul-left (step rate p q) x, div-mul-le-self (rise rate p q * 2 ^ 32) (width p q));
-        room = λ d l m.
-            rw (added-at d l (omega arith))
-            (omega (arith, h .room d l, between-le rate p q d (record { farther = h .farther; no-less = h .no-less }) (record { deviation-le = h .deviation-most; share-le = h .share-most }) l (omega arith)));
+        room = λ d l m. omega (arith, h .room d l, added-le d l (omega arith));
       }
 
-  pub filled : {after : List ℕ} → Added (p .deviation) (min end (q .deviation)) (λ (d : ℕ). wholes (first (rate * p .share)) (step rate p q) (d - p .deviation)) before after →
+  pub filled : {after : List ℕ} →
+      Added (p .deviation) (min end (q .deviation)) (λ (d : ℕ). wholes (first (rate * p .share)) (step rate p q) (d - p .deviation)) before after →
       Added (p .deviation) (min end (q .deviation)) (λ (d : ℕ). responseTo rate (between p q d)) before after
   filled a = same-added a _ (λ d l m. added-at d l (omega arith))

@@ -54,14 +54,17 @@ module _ (c : Curve) (rate end : ℕ) (before : List ℕ) where
             room = λ d l. omega (arith, f .so-far .above d (omega arith), room d);
           }
 
-      pub turn : {after : List ℕ} → length after ≡ length table → Added (last .deviation) (min end (at c i .deviation)) (λ (d : ℕ). responseTo rate (between last (at c i) d)) table after →
+      pub turn : {after : List ℕ} → length after ≡ length table →
+          Added (last .deviation) (min end (at c i .deviation)) (λ (d : ℕ). responseTo rate (between last (at c i) d)) table after →
           Filled after (at c i) (i + 1)
       turn long a =
           let r = next-rises c (f .reached) h there in
           record {
             long = long ∙ f .long;
             reached = reach-next c (f .reached) h there;
-            so-far = then-added end (last .deviation) (f .so-far) (same-added a _ (λ d l m. rw (here c (f .reached) h there d l (omega arith)))) (omega arith) (omega arith);
+            so-far =
+                then-added end (last .deviation) (f .so-far) (same-added a _ (λ d l m. rw (here c (f .reached) h there d l (omega arith)))) (omega arith)
+                (omega arith);
           }
 
     -- ---- past the last point
@@ -72,16 +75,19 @@ module _ (c : Curve) (rate end : ℕ) (before : List ℕ) where
     abbrev flat-parts : ℕ
     flat-parts = first (rate * last .share)
 
+    flat-at : (d : ℕ) → wholes flat-parts 0 (d - last .deviation) ≡ rate * last .share
+    flat-at d = start-value (2 ^ 32) (rate * last .share) (d - last .deviation) (omega arith)
+
     pub fill-fits : rate ≤ 1000000 → end ≤ length before → Room (1000 * rate) before → FillFits flat-parts 0 (last .deviation) end table
     fill-fits rate-most e room =
         record {
           there = omega (arith, f .long);
           parts-fit = omega (arith, flat-le);
-          room = λ d l m. rw (start-value (2 ^ 32) (rate * last .share) (d - last .deviation) (omega arith)) (omega (arith, flat-le, f .so-far .above d (omega arith), room d));
+          room = λ d l m. omega (arith, flat-at d, flat-le, f .so-far .above d (omega arith), room d);
         }
 
-    pub done : {after : List ℕ} → c .count ≤ i → Added (last .deviation) end (λ (d : ℕ). wholes flat-parts 0 (d - last .deviation)) table after → Added 0 end added before after
+    pub done : {after : List ℕ} → c .count ≤ i → Added (last .deviation) end (λ (d : ℕ). wholes flat-parts 0 (d - last .deviation)) table after →
+        Added 0 end added before after
     done h a =
         then-added end (last .deviation) (f .so-far)
-        (same-added a _ (λ d l m. rw (start-value (2 ^ 32) (rate * last .share) (d - last .deviation) (omega arith), flat c (f .reached) h d l) (sym (up-one (rate * last .share)))))
-        (omega arith) (omega arith)
+        (same-added a _ (λ d l m. rw (flat-at d, flat c (f .reached) h d l) (sym (up-one (rate * last .share))))) (omega arith) (omega arith)

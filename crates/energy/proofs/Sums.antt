@@ -21,7 +21,8 @@ use Rattle.energy.proofs.Responses.{response-sum-le}
 use Rattle.energy.proofs.Tables.{zeros-at}
 
 -- where a table of zeros got f up to the largest deviation
-by-table : (deviation f : ℕ → ℕ) (n : ℕ) {most : ℕ} (table : List ℕ) → Added 0 (most + 1) f (replicate n 0) table → (rs : List ℕ) → reach deviation rs ≤ most →
+by-table : (deviation f : ℕ → ℕ) (n : ℕ) {most : ℕ} (table : List ℕ) → Added 0 (most + 1) f (replicate n 0) table →
+    (rs : List ℕ) → reach deviation rs ≤ most →
     tableSum deviation table rs ≡ sum (map (λ (r : ℕ). f (deviation r)) rs)
 unfolding sum largest
 by-table deviation f n table a [] h = refl
@@ -62,7 +63,8 @@ not-both false b = refl
 
 module _ (low high : Quantities) (cs : Curves) (rs : List ℕ) where
   -- what both directions of at most 1,000 MW respond
-  pub sums-most : BeforeReadings low high cs → length rs ≡ 3600 → (sums : Sums) → sums ≡ responseSums low high cs rs → (sums .low ≤ 3600000000) × (sums .high ≤ 3600000000)
+  pub sums-most : BeforeReadings low high cs → length rs ≡ 3600 → (sums : Sums) → sums ≡ responseSums low high cs rs →
+      (sums .low ≤ 3600000000) × (sums .high ≤ 3600000000)
   sums-most b long sums same =
       rw same
       (omega (arith, b .low-most, b .high-most, response-sum-le low cs (b .curves) lowDeviation rs long, response-sum-le high cs (b .curves) highDeviation rs long))
@@ -76,4 +78,11 @@ module _ (low high : Quantities) (cs : Curves) (rs : List ℕ) where
       fromReadings low high cs rs ≡ checked (cause 6 (ltb 3000 (most .low) || ltb 3000 (most .high)) ∷ []) (boundsOf low high cs rs)
   unfolding goodReadings
   by-tests h most same =
-      rw (same, eq-eqb (length rs) 3600 h, every-within rs, not-both (leb (reach lowDeviation rs) 3000) (leb (reach highDeviation rs) 3000), not-leb (reach lowDeviation rs) 3000, not-leb (reach highDeviation rs) 3000)
+      rw (
+        same,
+        eq-eqb (length rs) 3600 h,
+        every-within rs,
+        not-both (leb (reach lowDeviation rs) 3000) (leb (reach highDeviation rs) 3000),
+        not-leb (reach lowDeviation rs) 3000,
+        not-leb (reach highDeviation rs) 3000,
+      )

@@ -36,11 +36,12 @@ module _ {from : ℕ} {f : ℕ → ℕ} {before : List ℕ} where
     -- a turn of a loop that adds
     pub one-more : from ≤ at → at < length after → Added from (at + 1) f before (set after at (getD after at 0 + f at))
     one-more l h =
-        let other : (d : ℕ) → d ≢ at → getD (set after at (getD after at 0 + f at)) d 0 ≡ getD after d 0 = λ d n. getD-set-other after at d (getD after at 0 + f at) 0 n in
+        let sum = getD after at 0 + f at in
+        let other : (d : ℕ) → d ≢ at → getD (set after at sum) d 0 ≡ getD after d 0 = λ d n. getD-set-other after at d sum 0 n in
         record {
           inside = λ d fd ds.
               either d at (λ lt. other d (λ p. omega arith) ∙ a .inside d fd lt)
-              (λ ge. let p : d ≡ at = omega arith in rw (p, getD-set-same after at (getD after at 0 + f at) 0 h, a .above at (omega arith)));
+              (λ ge. let p : d ≡ at = omega arith in rw (p, getD-set-same after at sum 0 h, a .above at (omega arith)));
           below = λ d lt. other d (λ p. omega arith) ∙ a .below d lt;
           above = λ d ge. other d (λ p. omega arith) ∙ a .above d (omega arith);
         }
@@ -64,7 +65,8 @@ module _ {from : ℕ} {f : ℕ → ℕ} {before : List ℕ} where
 
 module _ {f : ℕ → ℕ} {before mid after : List ℕ} where
   -- from the first entry up to one, and then from that one on
-  pub then-added : (end at : ℕ) {to : ℕ} → Added 0 (min end at) f before mid → Added at to f mid after → min end at ≤ to → to ≤ end → Added 0 to f before after
+  pub then-added : (end at : ℕ) {to : ℕ} → Added 0 (min end at) f before mid → Added at to f mid after → min end at ≤ to → to ≤ end →
+      Added 0 to f before after
   then-added end at a b low high =
       record {
         inside = λ d l h.
@@ -84,6 +86,7 @@ module _ {f : ℕ → ℕ} {before mid after : List ℕ} where
       }
 
 -- the room that is left
-pub room-left : {end : ℕ} {f : ℕ → ℕ} {before after : List ℕ} → Added 0 end f before after → (more less : ℕ) → ((d : ℕ) → f d ≤ less) → Room (less + more) before → Room more after
+pub room-left : {end : ℕ} {f : ℕ → ℕ} {before after : List ℕ} → Added 0 end f before after →
+    (more less : ℕ) → ((d : ℕ) → f d ≤ less) → Room (less + more) before → Room more after
 room-left {end} {f} a more less le room d =
     either d end (λ lt. omega (arith, a .inside d (omega arith) lt, le d, room d)) (λ ge. omega (arith, a .above d ge, room d))
