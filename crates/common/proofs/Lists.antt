@@ -62,6 +62,13 @@ module _ (f : ℕ → ℕ) where
   sum-none n h k = rw (map-replicate n k, h) (sum-zeros k)
 
 -- ---- a test of every entry, by the entries
+
+and-swap : (a b c d : Bool) → a && b && (c && d) ≡ a && c && (b && d)
+and-swap true true c d = refl
+and-swap true false true d = refl
+and-swap true false false d = refl
+and-swap false b c d = refl
+
 module _ {A : Type 0} (holds : A → Bool) where
   pub every-append : (xs ys : List A) → every holds (xs ++ ys) ≡ every holds xs && every holds ys
   unfolding every
@@ -72,6 +79,12 @@ module _ {A : Type 0} (holds : A → Bool) where
   unfolding every
   every-same x h zero = refl
   every-same x h (suc n) = rw h (every-same x h n)
+
+  -- a test of two parts, part by part
+  pub every-both : (one other : A → Bool) → ((x : A) → holds x ≡ one x && other x) → (xs : List A) → every holds xs ≡ every one xs && every other xs
+  unfolding every
+  every-both one other h [] = refl
+  every-both one other h (x ∷ xs) = rw (h x, every-both one other h xs) (and-swap (one x) (other x) (every one xs) (every other xs))
 
   module _ (d : A) where
     pub every-at : (xs : List A) → ((i : ℕ) → i < length xs → holds (getD xs i d) ≡ true) → every holds xs ≡ true

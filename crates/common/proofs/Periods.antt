@@ -1,11 +1,13 @@
 -- Lists and tests over the periods 1 to n: entries, and how an array is filled. Assumes nothing.
 use mathlib.Core.Path.{_≡_, refl, sym, ap, _∙_}
-use mathlib.Core.Bool.{Bool, true, _&&_, and-true}
+use mathlib.Core.Bool.{Bool, true, cond, _&&_, and-true}
 use mathlib.Core.List.{List, [], _∷_, _++_, map, map-append}
-use Prim.Native.Nat.{ℕ, zero, suc, _+_, _<_}
+use Prim.Native.Nat.{ℕ, zero, suc, _+_, _<_, min}
 use native.Mathlib.Numerals.{add-one}
 use native.Mathlib.Omega.{arith}
 use native.Mathlib.Decide.{decLt}
+use borrow.Author.Tests.{le-leb, lt-leb}
+use lib.Dec.{leb}
 use lib.ListN.{length, getD, take, set, length-append, List·getD-append}
 use lib.Seq.{take-all, take-suc-set, getD-at}
 use Rattle.common.specs.Lists.{every}
@@ -67,3 +69,21 @@ module _ (holds : ℕ → Bool) where
       by : Dec (k < n) → (k < n → holds (suc k) ≡ true) → holds (suc k) ≡ true
       by (yes m) rest = rest m
       by (no m) rest = let p : k ≡ n = omega arith in rw p (w .1)
+
+-- a test of those periods that are at most c
+pub every-until : (holds : ℕ → Bool) (c n : ℕ) → every (λ (i : ℕ). cond (leb i c) (holds i) true) (periodsTo n) ≡ every holds (periodsTo (min c n))
+unfolding periodsTo every
+every-until holds c zero = let p : min c 0 ≡ 0 = omega arith in rw p
+every-until holds c (suc n) = every-next upTo n ∙ by (decLt n c) (every-until holds c n)
+  where
+    upTo : ℕ → Bool
+    upTo i = cond (leb i c) (holds i) true
+
+    by : Dec (n < c) → every upTo (periodsTo n) ≡ every holds (periodsTo (min c n)) → every upTo (periodsTo n) && upTo (suc n) ≡ every holds (periodsTo (min c (suc n)))
+    by (yes l) rest =
+        let p : min c n ≡ n = omega arith in
+        let q : min c (suc n) ≡ suc n = omega arith in
+        rw (rest, p, q, le-leb (suc n) c l) (sym (every-next holds n))
+    by (no l) rest =
+        let p : min c (suc n) ≡ min c n = omega arith in
+        rw (rest, p, lt-leb (suc n) c (omega arith)) (and-true (every holds (periodsTo (min c n))))

@@ -7,3 +7,4 @@ pub mod History
 pub mod Promise
 pub mod Settling
 pub mod Usable
+pub mod NextPeriod

@@ -13,12 +13,13 @@ use Rattle.signed.specs.Sign.{above, below, greater, within}
 use Rattle.terms.specs.Terms.{REV, ER}
 use Rattle.terms.specs.declared.Quantities.{Quantities}
 use Rattle.requirement.specs.Requirement.{sched, start}
+use Rattle.requirement.specs.declared.Next.{Next}
 use Rattle.energy.specs.Period.{goodReadings, lowBound, highBound}
-use Rattle.ledger_record.specs.Rule.{startAt, backAt, recordRule}
+use Rattle.ledger_record.specs.Rule.{startAt, backAt, recordRule, standingOf}
 use Rattle.ledger_record.specs.declared.Entries.{Entries}
 use Rattle.ledger_record.specs.declared.Totals.{Totals}
 use Rattle.ledger_record.specs.declared.Record.{Record}
-use Rattle.ledger.specs.declared.Needs.{Needs}
+use Rattle.ledger_record.specs.declared.Standing.{Standing}
 use Rattle.ledger.specs.declared.Settled.{Settled}
 use Rattle.ledger.specs.declared.Settled.the-variants as settlements
 use Rattle.ledger.specs.declared.CheckAnswer.{CheckAnswer}
@@ -178,12 +179,13 @@ closeAnswerOf c = closeAnswerWith (c .answer) (c .«record»)
 
 -- ---- what private functions ask and give
 
--- `needs_of`: the floor, and what must stay free below the size; neither is above its direction's REV
-pub record NeedsAre (r : Record) (n : Needs) : Type 0 where
-  pub floor-is : pos (n .low) ≡ floor r
-  pub ceiling-is : pos (r .size) -ℤ pos (n .high) ≡ ceiling r
-  pub low-most : n .low ≤ REV (r .terms .low)
-  pub high-most : n .high ≤ REV (r .terms .high)
+-- `need_of`: the greater of 0 and start + back of a period that begins so
+abbrev pub needBy : Next → ℤ
+needBy n = greater (pos 0) (n .start +ℤ pos (n .back))
+
+pub record NeedFits (n : Next) : Type 0 where
+  pub start-most : above (n .start) ≤ 2 ^ 44
+  pub back-most : n .back ≤ 2 ^ 44
 
 -- `settle`: the new state, where the closing settles
 abbrev pub settling : ℕ → ℕ → ℕ → ℤ → ℤ → ℤ → Settled
@@ -195,3 +197,9 @@ pub record TotalsFit (t : Totals) (p delivered taken : ℤ) : Type 0 where
   pub sold-fits : t .sold + below p < 2 ^ 32
   pub delivered-fits : t .delivered + above delivered < 2 ^ 32
   pub taken-fits : t .taken + above taken < 2 ^ 32
+
+-- `closed_record`: a period is open, the standing is the record's, and the totals fit
+pub record CanClose (r : Record) (s : Standing) (p delivered taken : ℤ) : Type 0 where
+  pub period-open : r .closed < 8
+  pub stands : s ≡ standingOf r
+  pub totals-fit : TotalsFit (r .totals) p delivered taken

@@ -1,15 +1,18 @@
 // The ledger: checking, proposing and closing, over the record of ledger_record.
 ghost use mathlib.Core.Path.{_≡_};
-ghost use Prim.Native.Nat.{suc, _+_, _≤_, _<_, _^_};
+ghost use Prim.Native.Nat.{_+_, _≤_, _<_, _^_};
 ghost use lib.IntN.{pos, _+ℤ_, _-ℤ_};
 ghost use Rattle.common.specs.Answer.{numberOf, orBlank};
 ghost use Rattle.signed.specs.Sign.{within};
-ghost use Rattle.terms.specs.Terms.{REV};
-ghost use Rattle.ledger.specs.Calls.{need, NeedsAre, accepts, toward, moved, settling, closedEntries, TotalsFit, closedTotals, closedRecord, unusable, checking, checkAnswerOf, proposing, proposeAnswerOf, closingWith, closing, closeAnswerWith, closeAnswerOf};
+ghost use Rattle.ledger_record.specs.Rule.{nextAt};
+ghost use Rattle.ledger.specs.Calls.{NeedFits, needBy, toward, moved, settling, closedEntries, TotalsFit, closedTotals, closedRecord, CanClose, checking, checkAnswerOf, proposing, proposeAnswerOf, closingWith, closing, closeAnswerWith, closeAnswerOf};
 use energy::period::PeriodEnergy;
 use ledger_record::Entries;
 use ledger_record::Record;
+use ledger_record::Standing;
 use ledger_record::Totals;
+use requirement::Next;
+use terms::DirectionTerms;
 use terms::Quantities;
 
 pub enum CheckAnswer {
@@ -40,25 +43,15 @@ pub struct Closed {
     pub record: Record,
 }
 
-// Refusal 10.
-fn is_unusable(given: Record) -> bool
-    ensures { λ r. ⌜ r ≡ unusable given ⌝ }
-{
-    (given.closed == 8) | !ledger_record::record_holds(given)
-}
-
 // ---- checking
 
-// The greater of 0 and start + back of the period after the closed ones.
-fn need_of(q: Quantities, closed: u32, entries: Entries) -> u64
-    requires { ⌜ closed < 8 ⌝ }
-    ensures { λ r. ⌜ (pos r ≡ need q entries (suc closed)) × (r ≤ REV q) ⌝ }
+// The greater of 0 and start + back of the period that begins so.
+fn need_of(next: Next) -> u64
+    requires { ⌜ NeedFits next ⌝ }
+    ensures { λ r. ⌜ (pos r ≡ needBy next) × (r ≤ 2 ^ 45) ⌝ }
 {
-    let bounds = entries.bounds;
-    let rows = requirement::direction_table(q, bounds).rows;
-    let row = rows[closed as usize];
-    let start = row.start;
-    let up = signed::above_zero(start) + row.back;
+    let start = next.start;
+    let up = signed::above_zero(start) + next.back;
     let down = signed::below_zero(start);
     if up < down {
         return 0;
@@ -66,30 +59,9 @@ fn need_of(q: Quantities, closed: u32, entries: Entries) -> u64
     up - down
 }
 
-// What the state must reach, and what must be free above it.
-struct Needs {
-    low: u64,
-    high: u64,
-}
-
-fn needs_of(given: Record) -> Needs
-    requires { ⌜ given .closed < 8 ⌝ }
-    ensures { λ r. ⌜ NeedsAre given r ⌝ }
-{
-    let t = given.terms;
-    let low = t.low;
-    let high = t.high;
-    let low_entries = given.low;
-    let high_entries = given.high;
-    Needs {
-        low: need_of(low, given.closed, low_entries),
-        high: need_of(high, given.closed, high_entries),
-    }
-}
-
 // Whether state + p lies from low to size less high.
 fn lies_between(low: u64, state: u32, size: u32, high: u64, p: i64) -> bool
-    requires { ⌜ (low ≤ 2 ^ 44) × (high ≤ 2 ^ 44) ⌝ }
+    requires { ⌜ (low ≤ 2 ^ 45) × (high ≤ 2 ^ 45) ⌝ }
     ensures { λ r. ⌜ r ≡ within (pos low) (pos state +ℤ p) (pos size -ℤ pos high) ⌝ }
 {
     let up = state as u64 + signed::above_zero(p);
@@ -97,22 +69,25 @@ fn lies_between(low: u64, state: u32, size: u32, high: u64, p: i64) -> bool
     (low + down <= up) & (up + high <= size as u64 + down)
 }
 
-fn is_accepted(given: Record, purchase: i64) -> bool
-    requires { ⌜ given .closed < 8 ⌝ }
-    ensures { λ r. ⌜ r ≡ accepts given purchase ⌝ }
+// Whether a purchase is accepted, by what the next period begins with.
+fn is_accepted(state: u32, size: u32, low: Next, high: Next, purchase: i64) -> bool
+    requires { ⌜ NeedFits low × NeedFits high ⌝ }
+    ensures { λ r. ⌜ r ≡ within (needBy low) (pos state +ℤ purchase) (pos size -ℤ needBy high) ⌝ }
 {
-    let n = needs_of(given);
-    lies_between(n.low, given.state, given.size, n.high, purchase)
+    lies_between(need_of(low), state, size, need_of(high), purchase)
 }
 
 // Checks a purchase, of which a negative one is a sale: refusals 10, 8.
 pub fn check_purchase(given: Record, purchase: i64) -> CheckAnswer
     ensures { λ r. ⌜ checkAnswerOf r ≡ checking given purchase ⌝ }
 {
-    if is_unusable(given) {
+    let s = ledger_record::standing_of(given);
+    if (given.closed == 8) | !s.holds {
         return CheckAnswer::Unusable;
     }
-    if !is_accepted(given, purchase) {
+    let low = s.low;
+    let high = s.high;
+    if !is_accepted(given.state, given.size, low, high, purchase) {
         return CheckAnswer::Purchase;
     }
     CheckAnswer::Accepted
@@ -122,7 +97,7 @@ pub fn check_purchase(given: Record, purchase: i64) -> CheckAnswer
 
 // What brings the state to low or more and to size less high or less.
 fn toward(low: u64, state: u32, size: u32, high: u64) -> i64
-    requires { ⌜ (low ≤ 2 ^ 44) × (high ≤ 2 ^ 44) ⌝ }
+    requires { ⌜ (low ≤ 2 ^ 45) × (high ≤ 2 ^ 45) ⌝ }
     ensures { λ r. ⌜ r ≡ toward (pos low) (pos state) (pos size -ℤ pos high) ⌝ }
 {
     let state = state as u64;
@@ -140,11 +115,13 @@ fn toward(low: u64, state: u32, size: u32, high: u64) -> i64
 pub fn propose_purchase(given: Record) -> ProposeAnswer
     ensures { λ r. ⌜ proposeAnswerOf r ≡ proposing given ⌝ }
 {
-    if is_unusable(given) {
+    let s = ledger_record::standing_of(given);
+    if (given.closed == 8) | !s.holds {
         return ProposeAnswer::Unusable;
     }
-    let n = needs_of(given);
-    ProposeAnswer::Purchase(toward(n.low, given.state, given.size, n.high))
+    let low = s.low;
+    let high = s.high;
+    ProposeAnswer::Purchase(toward(need_of(low), given.state, given.size, need_of(high)))
 }
 
 // ---- closing
@@ -187,21 +164,19 @@ fn settle(
     Settled::To(new as u32)
 }
 
-// A direction's entries with one period more.
-fn closed_entries(q: Quantities, entries: Entries, closed: u32, bound: u32) -> Entries
-    requires { ⌜ closed < 8 ⌝ }
+// A direction's entries with one period more, which begins so.
+fn closed_entries(q: Quantities, entries: Entries, closed: u32, bound: u32, next: Next) -> Entries
+    requires { ⌜ (closed < 8) × (next ≡ nextAt q closed entries) ⌝ }
     ensures { λ r. ⌜ r ≡ closedEntries q entries closed bound ⌝ }
 {
     let at = closed as usize;
     let mut bounds = entries.bounds;
     bounds[at] = bound;
-    let rows = requirement::direction_table(q, bounds).rows;
-    let row = rows[at];
-    let start = row.start;
+    let start = next.start;
     let mut starts = entries.starts;
     starts[at] = start;
     let mut scheds = entries.scheds;
-    scheds[at] = row.sched;
+    scheds[at] = common::smaller(bound as u64 + next.left, DirectionTerms::of(q).er);
     Entries {
         bounds,
         starts,
@@ -230,9 +205,10 @@ fn closed_totals(totals: Totals, purchase: i64, delivered: i64, taken: i64) -> T
     }
 }
 
-// The record with one more period closed.
+// The record with one more period closed, by its standing before.
 fn closed_record(
     given: Record,
+    s: Standing,
     low: u32,
     high: u32,
     new: u32,
@@ -240,7 +216,7 @@ fn closed_record(
     delivered: i64,
     taken: i64,
 ) -> Record
-    requires { ⌜ (given .closed < 8) × TotalsFit (given .totals) purchase delivered taken ⌝ }
+    requires { ⌜ CanClose given s purchase delivered taken ⌝ }
     ensures { λ r. ⌜ r ≡ closedRecord given low high new purchase delivered taken ⌝ }
 {
     let t = given.terms;
@@ -251,6 +227,8 @@ fn closed_record(
     let high_entries = given.high;
     let closed = given.closed;
     let totals = given.totals;
+    let low_next = s.low;
+    let high_next = s.high;
     Record {
         terms: t,
         curves,
@@ -258,8 +236,8 @@ fn closed_record(
         first: given.first,
         state: new,
         closed: closed + 1,
-        low: closed_entries(low_q, low_entries, closed, low),
-        high: closed_entries(high_q, high_entries, closed, high),
+        low: closed_entries(low_q, low_entries, closed, low, low_next),
+        high: closed_entries(high_q, high_entries, closed, high, high_next),
         totals: closed_totals(totals, purchase, delivered, taken),
     }
 }
@@ -285,10 +263,13 @@ pub fn close_period(
     ensures answer { λ r. ⌜ closeAnswerOf r ≡ closing given (closingWith purchase (now (readings .entry)) delivered taken) ⌝ }
     ensures beside { λ r. ⌜ r .«record» ≡ orBlank given (closing given (closingWith purchase (now (readings .entry)) delivered taken)) ⌝ }
 {
-    if is_unusable(given) {
+    let s = ledger_record::standing_of(given);
+    if (given.closed == 8) | !s.holds {
         return refuse(CloseAnswer::Unusable, given);
     }
-    if !is_accepted(given, purchase) {
+    let low_next = s.low;
+    let high_next = s.high;
+    if !is_accepted(given.state, given.size, low_next, high_next, purchase) {
         return refuse(CloseAnswer::Purchase, given);
     }
     let t = given.terms;
@@ -306,7 +287,7 @@ pub fn close_period(
     };
     Closed {
         answer: CloseAnswer::Closed,
-        record: closed_record(given, low, high, new, purchase, delivered, taken),
+        record: closed_record(given, s, low, high, new, purchase, delivered, taken),
     }
 }
 

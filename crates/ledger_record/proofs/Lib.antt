@@ -2,4 +2,4 @@ pub mod Entry
 pub mod Kept
 pub mod Laws
 pub mod Openings
-pub mod Rows
+pub mod NextPeriod

@@ -1,9 +1,8 @@
 -- Paper 01, "Ledger": the record rule. Assumes nothing.
 use mathlib.Core.Bool.{Bool, cond, _&&_}
-use Prim.Native.Nat.{ℕ, suc, _-_, _*_}
+use Prim.Native.Nat.{ℕ, suc, _*_, min}
 use lib.Dec.{leb, eqb}
 use lib.IntN.{ℤ, pos, _+ℤ_, _-ℤ_}
-use lib.ListN.{getD}
 use lib.Signed.{leZ}
 use Rattle.common.specs.Answer.{clear}
 use Rattle.common.specs.Lists.{sum, every}
@@ -11,9 +10,12 @@ use Rattle.common.specs.Periods.{periodsTo, ofPeriod}
 use Rattle.signed.specs.Sign.{eqZ}
 use Rattle.terms.specs.Terms.{Q, REV, ER}
 use Rattle.terms.specs.declared.Quantities.{Quantities}
-use Rattle.requirement.specs.Requirement.{sched, back, start}
+use Rattle.requirement.specs.Requirement.{sched, back, start, noted, nextOf, requirementIn}
+use Rattle.requirement.specs.declared.Next.{Next}
+use Rattle.ledger_record.specs.declared.Direction.{Direction}
 use Rattle.ledger_record.specs.declared.Entries.{Entries}
 use Rattle.ledger_record.specs.declared.Record.{Record}
+use Rattle.ledger_record.specs.declared.Standing.{Standing}
 use Rattle.ledger_record.specs.Opening.{openingCauses}
 
 -- ---- a direction: its quantities, and the bounds in its entries
@@ -29,11 +31,7 @@ backAt q x i = back (ER q) (ofPeriod (x .bounds)) i
 
 -- the requirement in the entries of period i
 abbrev pub requirementOf : Entries → ℕ → ℤ
-requirementOf x i = getD (x .starts) (i - 1) (pos 0)
-
--- a requirement and a schedule are this start and this sched
-abbrev pub noted : ℤ → ℕ → ℤ → ℕ → Bool
-noted requirement schedule start sched = eqZ requirement start && eqb schedule sched
+requirementOf x = requirementIn (x .starts)
 
 -- the entries of period i, closed or not: bounds are at most 500 × Q; requirements and schedules are those of the bounds, and
 -- entries of periods not closed are 0
@@ -82,3 +80,31 @@ recordRule r =
     && entriesRule (r .terms .high) (r .closed) (r .high)
     && totalsRule r
     && stateRule r
+
+-- ---- what the calls need of a record
+
+-- what the period after the closed ones begins with in a direction; after more than eight, as after eight
+abbrev pub nextAt : Quantities → ℕ → Entries → Next
+nextAt q closed x = nextOf (REV q) (ER q) (ofPeriod (x .bounds)) (suc (min closed 8))
+
+-- whether the record keeps the rule, and what the next period begins with in each direction
+unfoldable pub standingOf : Record → Standing
+standingOf r =
+    record {
+      holds = recordRule r;
+      low = nextAt (r .terms .low) (r .closed) (r .low);
+      high = nextAt (r .terms .high) (r .closed) (r .high);
+    }
+
+-- ---- what private functions make
+
+-- `direction_of`
+abbrev pub directionOf : Quantities → ℕ → Entries → Direction
+directionOf q closed x = record { holds = entriesRule q closed x; next = nextAt q closed x }
+
+-- `entries_within`: the rule of the entries but for what the bounds of the closed periods make of them
+abbrev pub withinRule : ℕ → ℕ → Entries → Bool
+withinRule most closed x =
+    every
+    (λ (i : ℕ). cond (leb i closed) (leb (ofPeriod (x .bounds) i) most) (eqb (ofPeriod (x .bounds) i) 0 && noted (requirementOf x i) (ofPeriod (x .scheds) i) (pos 0) 0))
+    (periodsTo 8)

@@ -1,17 +1,21 @@
 // The ledger's record, its rule and opening.
 ghost use mathlib.Core.Path.{_≡_};
 ghost use mathlib.Core.Bool.{cond, _&&_};
-ghost use Prim.Native.Nat.{_+_};
+ghost use Prim.Native.Nat.{_+_, _*_};
 ghost use lib.Dec.{leb, eqb};
 ghost use lib.IntN.{pos};
 ghost use Rattle.common.specs.Answer.{numberOf, isGiven, orBlank};
 ghost use Rattle.common.specs.Lists.{sum};
+ghost use Rattle.energy.specs.Curve.{curvesRule};
+ghost use Rattle.requirement.specs.Requirement.{noted};
+ghost use Rattle.energy.specs.declared.curve.Curves.{Curves};
 ghost use Rattle.ledger_record.specs.Opening.{quantityOut, sizeOut, firstOut, firstRecord, blankRecord, opening, answerWith, answerOf};
-ghost use Rattle.ledger_record.specs.Rule.{noted, entriesRule, totalsRule, nextStart, passesBoth, stateRule, recordRule};
+ghost use Rattle.ledger_record.specs.Rule.{withinRule, directionOf, nextStart, passesBoth, recordRule, standingOf};
 use energy::curve::Curve;
 use energy::curve::Curves;
 use energy::curve::Point;
 use energy::curve::curves_hold;
+use requirement::Next;
 use terms::DirectionTerms;
 use terms::Quantities;
 use terms::Terms;
@@ -93,9 +97,9 @@ fn first_out(t: Terms, size: u32, first: u32) -> bool
     (first < DirectionTerms::of(t.low).rev) | (size < first + DirectionTerms::of(t.high).rev)
 }
 
-// The first of the causes 1, 2, 5, 3, 4 that holds.
-fn opening_answer(t: Terms, curves: Curves, size: u32, first: u32) -> OpenAnswer
-    ensures { λ r. ⌜ answerWith r (firstRecord t curves size first) ≡ opening t curves size first ⌝ }
+// The first of the causes 1, 2, 5, 3, 4 that holds, for curves that keep their rule or not.
+fn opening_answer(t: Terms, good_curves: bool, size: u32, first: u32) -> OpenAnswer
+    ensures { λ r. ⌜ ((curves : Curves) → curvesRule curves ≡ «good_curves» → answerWith r (firstRecord t curves size first) ≡ opening t curves size first) ⌝ }
 {
     if quantity_out(t) {
         return OpenAnswer::Quantity;
@@ -103,7 +107,7 @@ fn opening_answer(t: Terms, curves: Curves, size: u32, first: u32) -> OpenAnswer
     if terms::limits_broken(t) {
         return OpenAnswer::Power;
     }
-    if !curves_hold(curves) {
+    if !good_curves {
         return OpenAnswer::Curve;
     }
     if size_out(t, size) {
@@ -190,7 +194,7 @@ pub fn open_record(t: Terms, curves: Curves, size: u32, first: u32) -> Opened
     ensures answer { λ r. ⌜ answerOf r ≡ opening t curves size first ⌝ }
     ensures beside { λ r. ⌜ r .«record» ≡ orBlank blankRecord (opening t curves size first) ⌝ }
 {
-    let answer = opening_answer(t, curves, size, first);
+    let answer = opening_answer(t, curves_hold(curves), size, first);
     if !is_open(answer) {
         return Opened {
             answer,
@@ -205,50 +209,51 @@ pub fn open_record(t: Terms, curves: Curves, size: u32, first: u32) -> Opened
 
 // ---- the record rule
 
-// The entries of one period, closed (done) or not, beside the start and the schedule of its bounds.
-fn entry_holds(
-    done: bool,
-    most: u64,
-    bound: u32,
-    requirement: i64,
-    schedule: u64,
-    start: i64,
-    sched: u64,
-) -> bool
-    ensures { λ r. ⌜ r ≡ cond done (leb bound most && noted requirement schedule start sched) (eqb bound 0 && noted requirement schedule (pos 0) 0) ⌝ }
+// One direction: whether its entries keep the rule, and what the period after the closed ones begins with.
+struct Direction {
+    holds: bool,
+    next: Next,
+}
+
+// The entries of one period, closed (done) or not, but for what a closed one's bounds make of them.
+fn entry_within(done: bool, most: u64, bound: u32, requirement: i64, schedule: u64) -> bool
+    ensures { λ r. ⌜ r ≡ cond done (leb bound most) (eqb bound 0 && noted requirement schedule (pos 0) 0) ⌝ }
 {
     if done {
-        return (bound as u64 <= most) & ((requirement == start) & (schedule == sched));
+        return bound as u64 <= most;
     }
     (bound == 0) & ((requirement == 0) & (schedule == 0))
 }
 
-fn entries_hold(q: Quantities, closed: u32, entries: Entries) -> bool
-    ensures { λ r. ⌜ r ≡ entriesRule q closed entries ⌝ }
+fn entries_within(most: u64, closed: u32, entries: Entries) -> bool
+    ensures { λ r. ⌜ r ≡ withinRule most closed entries ⌝ }
+{
+    let bounds = entries.bounds;
+    let starts = entries.starts;
+    let scheds = entries.scheds;
+    let mut holds = true;
+    let mut i: usize = 0;
+    while i < 8 {
+        let done = i < closed as usize;
+        holds = holds & entry_within(done, most, bounds[i], starts[i], scheds[i]);
+        i += 1;
+    }
+    holds
+}
+
+fn direction_of(q: Quantities, closed: u32, entries: Entries) -> Direction
+    ensures { λ r. ⌜ r ≡ directionOf q closed entries ⌝ }
 {
     let bounds = entries.bounds;
     let starts = entries.starts;
     let scheds = entries.scheds;
     let most = 500 * DirectionTerms::of(q).quantity;
-    let rows = requirement::direction_table(q, bounds).rows;
-    let mut holds = true;
-    let mut i: usize = 0;
-    while i < 8 {
-        let done = i < closed as usize;
-        let row = rows[i];
-        holds = holds
-            & entry_holds(
-                done,
-                most,
-                bounds[i],
-                starts[i],
-                scheds[i],
-                row.start,
-                row.sched,
-            );
-        i += 1;
+    let matched = requirement::match_entries(q, closed, bounds, starts, scheds);
+    let next = matched.next;
+    Direction {
+        holds: matched.same & entries_within(most, closed, entries),
+        next,
     }
-    holds
 }
 
 fn sum_of(bounds: [u32; 8]) -> u64
@@ -263,47 +268,26 @@ fn sum_of(bounds: [u32; 8]) -> u64
     total
 }
 
-// Bought and sold against the most, delivered and taken against the sums of the bounds.
-fn totals_within(most: u64, totals: Totals, low: u64, high: u64) -> bool
-    ensures { λ r. ⌜ r ≡ (leb (totals .bought) most && leb (totals .sold) most && leb (totals .delivered) low && leb (totals .taken) high) ⌝ }
+// Bought and sold against the most, delivered and taken against the sums of the low and the high bounds.
+fn totals_hold(closed: u32, totals: Totals, low: [u32; 8], high: [u32; 8]) -> bool
+    ensures { λ r. ⌜ r ≡ (leb (totals .bought) (10000000 * closed) && leb (totals .sold) (10000000 * closed) && leb (totals .delivered) (sum low) && leb (totals .taken) (sum high)) ⌝ }
 {
+    let most = 10_000_000 * closed as u64;
     (totals.bought as u64 <= most)
         & (totals.sold as u64 <= most)
-        & (totals.delivered as u64 <= low)
-        & (totals.taken as u64 <= high)
-}
-
-fn totals_hold(given: Record) -> bool
-    ensures { λ r. ⌜ r ≡ totalsRule given ⌝ }
-{
-    let low = given.low;
-    let high = given.high;
-    let low_bounds = low.bounds;
-    let high_bounds = high.bounds;
-    let totals = given.totals;
-    totals_within(
-        10_000_000 * given.closed as u64,
-        totals,
-        sum_of(low_bounds),
-        sum_of(high_bounds),
-    )
+        & (totals.delivered as u64 <= sum_of(low))
+        & (totals.taken as u64 <= sum_of(high))
 }
 
 // The start after the closed periods, 0 where more than eight are closed.
 pub fn next_start(q: Quantities, closed: u32, entries: Entries) -> i64
     ensures { λ r. ⌜ r ≡ nextStart q closed entries ⌝ }
 {
-    let bounds = entries.bounds;
-    let table = requirement::direction_table(q, bounds);
     if 8 < closed {
         return 0;
     }
-    if closed == 8 {
-        return table.start9;
-    }
-    let rows = table.rows;
-    let row = rows[closed as usize];
-    row.start
+    let next = direction_of(q, closed, entries).next;
+    next.start
 }
 
 // The state against the size, and against the start of each direction.
@@ -324,40 +308,46 @@ fn balances(state: u32, first: u32, totals: Totals) -> bool
     state as u64 + lost == first as u64 + totals.bought as u64 + totals.taken as u64
 }
 
-fn state_holds(given: Record) -> bool
-    ensures { λ r. ⌜ r ≡ stateRule given ⌝ }
+// Whether a record keeps its rule, and what the period after the closed ones begins with in each direction.
+pub struct Standing {
+    pub holds: bool,
+    pub low: Next,
+    pub high: Next,
+}
+
+// The record rule, whatever a record's bits. Each direction's periods are passed once.
+pub fn standing_of(given: Record) -> Standing
+    ensures { λ r. ⌜ r ≡ standingOf given ⌝ }
 {
+    let closed = given.closed;
     let t = given.terms;
-    let low = t.low;
-    let high = t.high;
+    let curves = given.curves;
+    let low_q = t.low;
+    let high_q = t.high;
     let low_entries = given.low;
     let high_entries = given.high;
+    let low_bounds = low_entries.bounds;
+    let high_bounds = high_entries.bounds;
     let totals = given.totals;
-    let low_start = next_start(low, given.closed, low_entries);
-    let high_start = next_start(high, given.closed, high_entries);
-    state_passes(given.state, given.size, low_start, high_start)
-        & balances(given.state, given.first, totals)
+    let low_direction = direction_of(low_q, closed, low_entries);
+    let high_direction = direction_of(high_q, closed, high_entries);
+    let low = low_direction.next;
+    let high = high_direction.next;
+    let holds = (closed <= 8)
+        & is_open(opening_answer(t, curves_hold(curves), given.size, given.first))
+        & low_direction.holds
+        & high_direction.holds
+        & totals_hold(closed, totals, low_bounds, high_bounds)
+        & (state_passes(given.state, given.size, low.start, high.start)
+            & balances(given.state, given.first, totals));
+    Standing { holds, low, high }
 }
 
 // Whether a record keeps the record rule, whatever its bits.
 pub fn record_holds(given: Record) -> bool
     ensures { λ r. ⌜ r ≡ recordRule given ⌝ }
 {
-    let closed = given.closed;
-    if 8 < closed {
-        return false;
-    }
-    let t = given.terms;
-    let curves = given.curves;
-    let low = t.low;
-    let high = t.high;
-    let low_entries = given.low;
-    let high_entries = given.high;
-    is_open(opening_answer(t, curves, given.size, given.first))
-        & entries_hold(low, closed, low_entries)
-        & entries_hold(high, closed, high_entries)
-        & totals_hold(given)
-        & state_holds(given)
+    standing_of(given).holds
 }
 
 // The number of an opening's answer, 0 for an open record.

@@ -2,7 +2,8 @@
 use mathlib.Core.Path.{_≡_, refl, ap}
 use mathlib.Core.Bool.{Bool, true, false, cond}
 use mathlib.Core.List.{map}
-use Prim.Native.Nat.{ℕ, zero, suc, _+_, _-_, _≤_, _<_}
+use Prim.Native.Nat.{ℕ, zero, suc, _+_, _-_, _*_, _≤_, _<_}
+use native.Mathlib.Nat.{mul-suc}
 use native.Mathlib.Omega.{arith}
 use native.Mathlib.Decide.{decLe}
 use borrow.Author.Tests.{le-leb, lt-leb}
@@ -53,6 +54,12 @@ module _ (ER : ℕ) (e : ℕ → ℕ) where
   all-scheduled zero = refl
   all-scheduled (suc n) =
       omega (arith, all-scheduled n, sum-next e (periodsTo n) (suc n), sum-next (sched ER e) (periodsTo n) (suc n), left-next ER e n, sched-le ER e (suc n))
+
+  -- no more is left than the bounds before
+  pub left-most : (m i : ℕ) → ((k : ℕ) → k < i → e (suc k) ≤ m) → left ER e (suc i) ≤ m * i
+  unfolding left
+  left-most m zero h = omega arith
+  left-most m (suc i) h = omega (arith, left-next ER e i, left-most m i (λ k l. h k (omega arith)), h i (omega arith), mul-suc m i)
 
 -- a start depends only on the bounds of the periods before it, and so does what is left and what comes back
 module _ (ER : ℕ) (e f : ℕ → ℕ) where

@@ -1,12 +1,17 @@
 -- Paper 01, "Requirement, each direction alike": REV and ER are a direction's volumes, and e i is the bound of period i = 1, 2, ..
 -- There is no period 0: nothing reads what stands for it. Assumes nothing.
-use mathlib.Core.Bool.{Bool, cond, _||_}
+use mathlib.Core.Bool.{Bool, cond, _&&_, _||_}
 use mathlib.Core.List.{List, map}
 use Prim.Native.Nat.{ℕ, zero, suc, _+_, _-_, _^_, _≤_, min}
-use lib.Dec.{leb}
+use lib.Dec.{leb, eqb}
 use lib.IntN.{ℤ, pos, _+ℤ_, _-ℤ_}
+use lib.ListN.{getD}
 use lib.Signed.{leZ}
+use Rattle.common.specs.Lists.{every}
 use Rattle.common.specs.Periods.{periodsTo, ofPeriod}
+use Rattle.signed.specs.Sign.{eqZ}
+use Rattle.requirement.specs.declared.Matched.{Matched}
+use Rattle.requirement.specs.declared.Next.{Next}
 use Rattle.requirement.specs.declared.Row.{Row}
 use Rattle.requirement.specs.declared.Table.{Table}
 
@@ -70,6 +75,29 @@ tableOf REV ER bounds =
     record {
       rows = map (rowOf REV ER (ofPeriod bounds)) (periodsTo 8);
       start9 = start REV ER (ofPeriod bounds) 9;
+    }
+
+-- ---- entries beside their bounds
+
+-- a requirement and a schedule are this start and this sched
+abbrev pub noted : ℤ → ℕ → ℤ → ℕ → Bool
+noted requirement schedule start sched = eqZ requirement start && eqb schedule sched
+
+-- what period i begins with
+abbrev pub nextOf : ℕ → ℕ → (ℕ → ℕ) → ℕ → Next
+nextOf REV ER e i = record { left = left ER e i; back = back ER e i; start = start REV ER e i }
+
+-- the requirement in the entries of period i
+abbrev pub requirementIn : List ℤ → ℕ → ℤ
+requirementIn requirements i = getD requirements (i - 1) (pos 0)
+
+-- whether requirements and schedules of the periods 1 to n are those of the bounds, and what the period after them begins with
+unfoldable pub matchedTo : ℕ → ℕ → List ℕ → List ℤ → List ℕ → ℕ → Matched
+matchedTo REV ER bounds requirements schedules n =
+    let e = ofPeriod bounds in
+    record {
+      same = every (λ (i : ℕ). noted (requirementIn requirements i) (ofPeriod schedules i) (start REV ER e i) (sched ER e i)) (periodsTo n);
+      next = nextOf REV ER e (suc n);
     }
 
 -- ---- what the private function `row_of` makes and asks

@@ -21,6 +21,7 @@ use Rattle.ledger_record.proofs.Kept.{Kept, kept, opened}
 use Rattle.ledger.specs.declared.Settled.the-variants.{Not, To}
 use Rattle.ledger.specs.Calls.{unusable, accepts, moved, settles, TotalsFit, closing}
 use Rattle.ledger.proofs.Closings.{accepted-most, no-bounds, BoundsAre, bounds-are, not-settled, settled-to}
+use Rattle.ledger.proofs.NextPeriod.{unusable-is, low-fits, high-fits, accepts-is}
 use Rattle.ledger.proofs.Settling.{in-bounds}
 use Rattle.ledger.proofs.Usable.{rule-kept, before-eight}
 use Rattle.ledger.proofs.close_period.Statement.{statement}
@@ -34,15 +35,16 @@ eight c =
     let high-bounds = from-low .1 .0 .1 .0 in
     (search needs, search needs)
 
--- ---- what is known once neither 10 nor 8 holds
-module _ (c : tie.Else2) where
+-- ---- what is known once 10 does not hold
+module _ (c : tie.Else1) where
+  abbrev stands : tie.After-standing-of
+  stands = c .before .before .before
+
   abbrev start : tie.Start
-  start = c .before .before .before .before .before
+  start = stands .before .before
 
   can-use : unusable (start .args .given) ≡ false
-  can-use =
-      let i = c .before .before in
-      sym (i .before .is-unusable .ensures) ∙ i .if1 .left
+  can-use = sym (unusable-is _ _ (stands .standing-of .ensures)) ∙ c .if1 .left
 
   opens : let g = start .args .given in LetThrough (g .terms) (g .curves) (g .size) (g .first)
   opens = opened _ (rule-kept _ can-use)
@@ -50,20 +52,28 @@ module _ (c : tie.Else2) where
   kept-here : Kept (start .args .given)
   kept-here = kept _ (eight start .0) (eight start .1) (rule-kept _ can-use)
 
-  accepted : accepts (start .args .given) (start .args .purchase) ≡ true
-  accepted =
-      let a = c .before in
-      ap (accepts (start .args .given)) (sym (toZ-ofZ (start .fits .purchase)))
-      ∙ sym (a .is-accepted .ensures)
-      ∙ not-false (a .is-accepted .result) (c .if2 .left)
+-- ---- once the purchase is tested
+abbrev usable : tie.After-is-accepted → tie.Else1
+usable c = c .before .before .before
+
+accepted-is : (c : tie.After-is-accepted) → let a = start (usable c) .args in c .is-accepted .result ≡ accepts (a .given) (a .purchase)
+accepted-is c =
+    let u = usable c in
+    (rw (toZ-ofZ (start u .fits .purchase)) at (c .is-accepted .ensures)) ∙ accepts-is _ _ (stands u .standing-of .ensures) (can-use u) (start u .args .purchase)
+
+accepted : (c : tie.Else2) → let a = start (usable (c .before)) .args in accepts (a .given) (a .purchase) ≡ true
+accepted c = sym (accepted-is (c .before)) ∙ not-false (c .before .is-accepted .result) (c .if2 .left)
 
 -- ---- and once there are bounds, and settling has its answer
 module _ (c : tie.After-settle) where
   abbrev energy-here : tie.After-period-energy
   energy-here = c .before .before .before .before
 
-  abbrev on : tie.Else2
-  on = energy-here .before .before .before .before .before
+  abbrev bought : tie.Else2
+  bought = energy-here .before .before .before .before .before
+
+  abbrev on : tie.Else1
+  on = usable (bought .before)
 
   abbrev g : Record
   g = start on .args .given
@@ -95,7 +105,7 @@ module _ (c : tie.After-settle) where
       let k = kept-here on in
       let f = opens on in
       let n = before-eight g (can-use on) in
-      let p = accepted-most g (a .purchase) (accepted on) (k .state-most) (f .size-most) in
+      let p = accepted-most g (a .purchase) (accepted bought) (k .state-most) (f .size-most) in
       let both-bounds = both-true (within (pos 0) (a .delivered) (pos low) && within (pos 0) (a .taken) (pos high)) (within (pos 0) new (pos (g .size))) e .0 in
       let d = in-bounds low high (a .delivered) (a .taken) both-bounds in
       let b = bounds-here in
@@ -108,18 +118,23 @@ module _ (c : tie.After-settle) where
         taken-fits = omega (arith, d, k .taken-most, b .high-is, h, ltb-false 1000 (Q (g .terms .high)) (f .high-quantity));
       }
 
-is-unusable-requires : tie.Need-is-unusable-requires
-is-unusable-requires c κs = search needs
+standing-of-requires : tie.Need-standing-of-requires
+standing-of-requires c κs = search needs
 
 refuse-requires : tie.Need-refuse-requires
 refuse-requires c κs = search needs
 
 returns : tie.Need-returns
 unfolding closing
-returns c = rw (c .refuse .ensures, ← c .before .before .is-unusable .ensures, c .before .if1 .taken) (refl, refl)
+returns c =
+    let t = c .before in
+    rw (c .refuse .ensures, ← unusable-is _ _ (t .before .before .before .standing-of .ensures), t .if1 .taken) (refl, refl)
 
 is-accepted-requires : tie.Need-is-accepted-requires
-is-accepted-requires c κs = before-eight _ (sym (c .before .is-unusable .ensures) ∙ c .if1 .left)
+is-accepted-requires c κs =
+    let u = c .before .before in
+    let is = stands u .standing-of .ensures in
+    (low-fits _ _ is (can-use u), high-fits _ _ is (can-use u))
 
 refuse-requires-2 : tie.Need-refuse-requires-2
 refuse-requires-2 c κs = search needs
@@ -127,9 +142,8 @@ refuse-requires-2 c κs = search needs
 returns-2 : tie.Need-returns-2
 unfolding closing
 returns-2 c =
-    let d = c .before in
-    let i = d .before .before in
-    rw (c .refuse2 .ensures, ← i .before .is-unusable .ensures, i .if1 .left, ← toZ-ofZ (i .before .before .before .fits .purchase), ← d .before .is-accepted .ensures, d .if2 .taken) (refl, refl)
+    let t = c .before in
+    rw (c .refuse2 .ensures, can-use (usable (t .before)), ← accepted-is (t .before), t .if2 .taken) (refl, refl)
 
 period-energy-requires : tie.Need-period-energy-requires
 period-energy-requires c κs = search needs
@@ -146,8 +160,9 @@ returns-3 c =
     let d = c .before in
     let e = d .before in
     let i = e .before .before .before .before .before in
-    let f = opens i in
-    rw (c .refuse3 .ensures, can-use i, accepted i, no-bounds _ _ _ _ (f .low-quantity) (f .high-quantity) (f .curves-hold) (e .period-energy .result) (e .period-energy .ensures) (d .match .keys2)) (refl, refl)
+    let u = usable (i .before) in
+    let f = opens u in
+    rw (c .refuse3 .ensures, can-use u, accepted i, no-bounds _ _ _ _ (f .low-quantity) (f .high-quantity) (f .curves-hold) (e .period-energy .result) (e .period-energy .ensures) (d .match .keys2)) (refl, refl)
 
 settle-requires : tie.Need-settle-requires
 settle-requires c κs = search needs
@@ -170,7 +185,7 @@ returns-4 c =
     rw (
       c .refuse4 .ensures,
       can-use (on m),
-      accepted (on m),
+      accepted (bought m),
       b .good,
       ← b .low-is,
       ← b .high-is,
@@ -183,7 +198,8 @@ closed-record-requires c κs =
     let m = c .before .before .before in
     let t = settled-to (test m) (above (new m)) (c .before .settled .given .0 .0) (m .settle .result) (settle-is m) (c .before .settled .given .1) in
     let f = start (on m) .fits in
-    rw (toZ-ofZ (f .purchase), toZ-ofZ (f .delivered), toZ-ofZ (f .taken)) (before-eight _ (can-use (on m)), totals-fit m (t .0))
+    rw (toZ-ofZ (f .purchase), toZ-ofZ (f .delivered), toZ-ofZ (f .taken))
+    (record { period-open = before-eight _ (can-use (on m)); stands = stands (on m) .standing-of .ensures; totals-fit = totals-fit m (t .0) })
 
 returns-5 : tie.Need-returns-5
 unfolding closing
@@ -194,13 +210,13 @@ returns-5 c =
     let t = settled-to (test m) (above (new m)) (k .before .settled .given .0 .0) (m .settle .result) (settle-is m) (k .before .settled .given .1) in
     let f = start (on m) .fits in
     let made = rw (toZ-ofZ (f .purchase), toZ-ofZ (f .delivered), toZ-ofZ (f .taken), t .1) at (c .closed-record .ensures) in
-    rw (can-use (on m), accepted (on m), b .good, ← b .low-is, ← b .high-is, t .0) (ap given made, made)
+    rw (can-use (on m), accepted (bought m), b .good, ← b .low-is, ← b .high-is, t .0) (ap given made, made)
 
 pub close-period-spec : {M : Type 1} → statement M
 close-period-spec =
     tie.close
     (tie.spec
-    is-unusable-requires
+    standing-of-requires
     refuse-requires
     returns
     is-accepted-requires

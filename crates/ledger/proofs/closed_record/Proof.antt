@@ -1,21 +1,30 @@
 -- `ledger::closed_record` meets its contract. Assumes nothing.
+use mathlib.Core.Path.{ap}
 use borrow.Author.Needs.{needs}
 use mir.Facts.{toZ-ofZ}
+use Rattle.ledger_record.specs.Rule.{standingOf}
+use Rattle.ledger_record.specs.declared.Standing.{Standing}
 use Rattle.ledger.specs.Calls.{closedRecord}
 use Rattle.ledger.proofs.closed_record.Statement.{statement}
 use Rattle.ledger.proofs.closed_record.Tie as tie
 
 abbrev start : tie.After-closed-entries → tie.Start
-start c = c .before .before .before .before .before .before .before .before
+start c = c .before .before .before .before .before .before .before .before .before .before
 
-add-t16 : tie.Need-add-t16
-add-t16 c = search needs
+add-t19 : tie.Need-add-t19
+add-t19 c = search needs
 
 closed-entries-requires : tie.Need-closed-entries-requires
-closed-entries-requires c κs = search needs
+unfolding standingOf
+closed-entries-requires c κs =
+    let s = c .before .before .before .before .before .before .before .before .before in
+    (s .pre .period-open, ap (λ (s : Standing). s .low) (s .pre .stands))
 
 closed-entries-requires-2 : tie.Need-closed-entries-requires-2
-closed-entries-requires-2 c κs = search needs
+unfolding standingOf
+closed-entries-requires-2 c κs =
+    let s = start c in
+    (s .pre .period-open, ap (λ (s : Standing). s .high) (s .pre .stands))
 
 closed-totals-requires : tie.Need-closed-totals-requires
 closed-totals-requires c κs = search needs
@@ -38,7 +47,7 @@ pub closed-record-spec : {M : Type 1} → statement M
 closed-record-spec =
     tie.close
     (tie.spec
-    add-t16
+    add-t19
     closed-entries-requires
     closed-entries-requires-2
     closed-totals-requires

@@ -7,6 +7,9 @@ use Rattle.ledger_record.proofs.Openings.{beside}
 use Rattle.ledger_record.proofs.open_record.Statement.{statement}
 use Rattle.ledger_record.proofs.open_record.Tie as tie
 
+curves-hold-requires : tie.Need-curves-hold-requires
+curves-hold-requires c κs = search needs
+
 opening-answer-requires : tie.Need-opening-answer-requires
 opening-answer-requires c κs = search needs
 
@@ -20,9 +23,9 @@ returns : tie.Need-returns
 returns c =
     let i = c .before .before in
     let o = i .before in
-    let a = o .before .args in
+    let a = o .before .before .args in
     let is-not = sym (i .is-open .ensures) ∙ not-true (i .is-open .result) (c .before .if1 .taken) in
-    rw (c .blank-record .ensures, ← o .opening-answer .ensures) (rw is-not at (beside (o .opening-answer .result) (firstRecord (a .t) (a .curves) (a .size) (a .first)) blankRecord))
+    rw (c .blank-record .ensures, ← o .opening-answer .ensures (a .curves) (sym (o .before .curves-hold .ensures))) (rw is-not at (beside (o .opening-answer .result) (firstRecord (a .t) (a .curves) (a .size) (a .first)) blankRecord))
 
 first-record-requires : tie.Need-first-record-requires
 first-record-requires c κs = search needs
@@ -31,14 +34,15 @@ returns-2 : tie.Need-returns-2
 returns-2 c =
     let i = c .before .before in
     let o = i .before in
-    let a = o .before .args in
+    let a = o .before .before .args in
     let is = sym (i .is-open .ensures) ∙ not-false (i .is-open .result) (c .before .if1 .left) in
-    rw (c .first-record .ensures, ← o .opening-answer .ensures) (rw is at (beside (o .opening-answer .result) (firstRecord (a .t) (a .curves) (a .size) (a .first)) blankRecord))
+    rw (c .first-record .ensures, ← o .opening-answer .ensures (a .curves) (sym (o .before .curves-hold .ensures))) (rw is at (beside (o .opening-answer .result) (firstRecord (a .t) (a .curves) (a .size) (a .first)) blankRecord))
 
 pub open-record-spec : {M : Type 1} → statement M
 open-record-spec =
     tie.close
     (tie.spec
+    curves-hold-requires
     opening-answer-requires
     is-open-requires
     blank-record-requires
