@@ -128,7 +128,11 @@ pub extern "C" fn bench_closings(
     let mut after = opened_record(mw, size, first);
     let mut i: u32 = 0;
     while i < count {
-        after = ledger::close_period(after, purchase, readings, delivered, taken).record;
+        let c = ledger::close_period(after, purchase, readings, delivered, taken);
+        let answer = c.answer;
+        if ledger::close_number(answer) == 0 {
+            after = c.record;
+        }
         i += 1;
     }
     one_number(after.closed, after.state)

@@ -1,6 +1,6 @@
 -- The calls by what the next period begins with: floor and ceiling, and the entries of a closing. Assumes nothing.
 use mathlib.Core.Path.{_≡_, ap}
-use mathlib.Core.Bool.{false, not, _||_}
+use mathlib.Core.Bool.{Bool, false, not, _||_}
 use Prim.Native.Nat.{ℕ, suc, _+_, _-_, _*_, _^_, _≤_, _<_, min}
 use native.Mathlib.Omega.{arith}
 use borrow.Author.Tests.{ltb-false}
@@ -61,9 +61,9 @@ module _ (r : Record) (s : Standing) (is : s ≡ standingOf r) where
     unfolding standingOf
     ceiling-is = rw is (ap (λ z. pos (r .size) -ℤ z) (need-is (r .terms .high) (r .closed) (r .high) (before-eight r e)))
 
-    pub accepts-is : (p : ℤ) → within (needBy (s .low)) (pos (r .state) +ℤ p) (pos (r .size) -ℤ needBy (s .high)) ≡ accepts r p
+    pub accepts-is : (p : ℤ) {b : Bool} → b ≡ within (needBy (s .low)) (pos (r .state) +ℤ p) (pos (r .size) -ℤ needBy (s .high)) → b ≡ accepts r p
     unfolding accepts
-    accepts-is p = rw (floor-is, ceiling-is)
+    accepts-is p e = rw (← floor-is, ← ceiling-is) e
 
 -- ---- entries
 

@@ -20,7 +20,7 @@ accepted-is : (c : tie.After-is-accepted) →
 accepted-is c =
     let e = c .before .before .before in
     let s = stands e in
-    (rw (toZ-ofZ (s .before .fits .purchase)) at (c .is-accepted .ensures)) ∙ accepts-is _ _ (s .standing-of .ensures) (can-use e) (s .before .args .purchase)
+    accepts-is _ _ (s .standing-of .ensures) (can-use e) (s .before .args .purchase) (rw (toZ-ofZ (s .before .fits .purchase)) at (c .is-accepted .ensures))
 
 standing-of-requires : tie.Need-standing-of-requires
 standing-of-requires c κs = search needs

@@ -59,7 +59,7 @@ usable c = c .before .before .before
 accepted-is : (c : tie.After-is-accepted) → let a = start (usable c) .args in c .is-accepted .result ≡ accepts (a .given) (a .purchase)
 accepted-is c =
     let u = usable c in
-    (rw (toZ-ofZ (start u .fits .purchase)) at (c .is-accepted .ensures)) ∙ accepts-is _ _ (stands u .standing-of .ensures) (can-use u) (start u .args .purchase)
+    accepts-is _ _ (stands u .standing-of .ensures) (can-use u) (start u .args .purchase) (rw (toZ-ofZ (start u .fits .purchase)) at (c .is-accepted .ensures))
 
 accepted : (c : tie.Else2) → let a = start (usable (c .before)) .args in accepts (a .given) (a .purchase) ≡ true
 accepted c = sym (accepted-is (c .before)) ∙ not-false (c .before .is-accepted .result) (c .if2 .left)
