@@ -58,10 +58,10 @@ loop-again c =
     let after = l .loop .after in
     let kept = orBlank-kept (k .close-period .result .answer) (k .close-period .result .«record») after in
     let next =
-        ⊎-elim
-        (λ w. w .2 ∙ k .close-period .ensures .1)
-        (λ w. w .1 ∙ sym (kept (k .close-period .ensures .0) (λ e. w .0 .left (c .before .close-number .ensures ∙ e))))
-        (c .if1 .came) in
+    ⊎-elim
+    (λ w. w .2 ∙ k .close-period .ensures .1)
+    (λ w. w .1 ∙ sym (kept (k .close-period .ensures .0) (λ e. w .0 .left (c .before .close-number .ensures ∙ e))))
+    (c .if1 .came) in
     (omega arith, rw (add-one (l .loop .i), ← l .loop .inv .1) next)
 
 one-number-requires : tie.Need-one-number-requires Inv-loop μ-loop
