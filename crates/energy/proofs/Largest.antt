@@ -1,15 +1,15 @@
 -- The largest of some numbers, and the largest deviations of some readings. Assumes nothing.
-use mathlib.Core.Path.{_≡_, refl, ap}
-use mathlib.Core.Bool.{Bool, true, false, _&&_, and-false}
+use mathlib.Core.Path.{_≡_, sym, ap, _∙_}
+use mathlib.Core.Bool.{_&&_}
 use mathlib.Core.List.{List, [], _∷_, map}
 use Prim.Native.Nat.{ℕ, zero, suc, _+_, _-_, _≤_, _<_, min, max}
-use native.Mathlib.Decide.{decLe}
 use native.Mathlib.Omega.{arith}
-use borrow.Author.Tests.{le-leb, lt-leb}
+use borrow.Author.Tests.{le-leb}
 use lib.Dec.{leb}
 use lib.ListN.{length, drop, getD, drop-of-length-le}
 use Rattle.common.specs.Lists.{every}
-use Rattle.common.proofs.Lists.{drop-next}
+use Rattle.common.proofs.Lists.{drop-next, every-both}
+use Rattle.common.proofs.Tests.{leb-same, leb-max}
 use Rattle.energy.specs.Period.{isReading, lowDeviation, highDeviation}
 use Rattle.energy.specs.Table.{largest, reach, reaches}
 
@@ -63,26 +63,10 @@ module _ (rs : List ℕ) where
 
 -- ---- what they say of the readings
 
--- two tests say the same where each says so when the other does
-leb-same : (a b c d : ℕ) → (a ≤ b → c ≤ d) → (c ≤ d → a ≤ b) → leb a b ≡ leb c d
-leb-same a b c d f g = by (decLe a b)
-  where
-    by : Dec (a ≤ b) → leb a b ≡ leb c d
-    by (yes h) = rw (le-leb a b h, le-leb c d (f h))
-    by (no h) = rw (lt-leb a b (omega arith), lt-leb c d (let k : c ≤ d → ⊥ = λ l. h (g l) in omega arith))
-
-leb-max : (a b n : ℕ) → leb (max a b) n ≡ leb a n && leb b n
-leb-max a b n = by (decLe a n) (decLe b n)
-  where
-    by : Dec (a ≤ n) → Dec (b ≤ n) → leb (max a b) n ≡ leb a n && leb b n
-    by (yes p) (yes q) = rw (le-leb a n p, le-leb b n q, le-leb (max a b) n (omega arith))
-    by (no p) q = rw (lt-leb a n (omega arith), lt-leb (max a b) n (omega arith))
-    by (yes p) (no q) = rw (le-leb a n p, lt-leb b n (omega arith), lt-leb (max a b) n (omega arith))
-
-regroup : (a b c d : Bool) → (a && b) && (c && d) ≡ (a && c) && (b && d)
-regroup true b true d = refl
-regroup true b false d = and-false b
-regroup false b c d = refl
+within-all : (f : ℕ → ℕ) (n : ℕ) (rs : List ℕ) → every (λ (r : ℕ). leb (f r) n) rs ≡ leb (largest (map f rs)) n
+unfolding every largest
+within-all f n [] = sym (le-leb 0 n (omega arith))
+within-all f n (r ∷ rs) = rw (within-all f n rs, leb-max (f r) (largest (map f rs)) n)
 
 within : (r : ℕ) → isReading r ≡ leb (lowDeviation r) 3000 && leb (highDeviation r) 3000
 within r =
@@ -90,10 +74,8 @@ within r =
     let high : leb r 53000 ≡ leb (highDeviation r) 3000 = leb-same r 53000 (highDeviation r) 3000 (λ h. omega arith) (λ h. omega arith) in
     rw (low, high)
 
--- a reading within 3,000 of 50,000 is good
+-- every reading is good exactly where none lies more than 3,000 from 50,000
 pub every-within : (rs : List ℕ) → every isReading rs ≡ leb (reach lowDeviation rs) 3000 && leb (reach highDeviation rs) 3000
-unfolding every largest
-every-within [] = refl
-every-within (r ∷ rs) =
-    rw (within r, every-within rs, leb-max (lowDeviation r) (reach lowDeviation rs) 3000, leb-max (highDeviation r) (reach highDeviation rs) 3000)
-    (regroup (leb (lowDeviation r) 3000) (leb (highDeviation r) 3000) (leb (reach lowDeviation rs) 3000) (leb (reach highDeviation rs) 3000))
+every-within rs =
+    every-both isReading (λ r. leb (lowDeviation r) 3000) (λ r. leb (highDeviation r) 3000) within rs
+    ∙ rw (within-all lowDeviation 3000 rs, within-all highDeviation 3000 rs)

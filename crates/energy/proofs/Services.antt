@@ -7,7 +7,7 @@ use native.Mathlib.Nat.{le-refl, mul-le-mul, mul-zero, zero-mul}
 use native.Mathlib.Omega.{arith}
 use lib.ListN.{length}
 use Rattle.energy.specs.Curve.{pointsOf, curveRule, between, shareAt, responseTo}
-use Rattle.energy.specs.Table.{Added, Room, wholes, FillFits, SegmentFits}
+use Rattle.energy.specs.Table.{Added, wholes, FillFits, SegmentFits, ServiceFits}
 use Rattle.energy.specs.declared.curve.Point.{Point}
 use Rattle.energy.specs.declared.curve.Curve.{Curve}
 use Rattle.energy.proofs.FixedPoint.{start-value}
@@ -40,18 +40,18 @@ module _ (c : Curve) (rate end : ℕ) (before : List ℕ) where
     -- ---- a turn
 
     module _ (h : i < c .count) (there : c .count ≤ length (c .points)) where
-      pub segment-fits : rate ≤ 1000000 → end ≤ length before → Room (1000 * rate) before → SegmentFits rate last (at c i) end table
-      segment-fits rate-most e room =
+      pub segment-fits : ServiceFits rate c end before → SegmentFits rate last (at c i) end table
+      segment-fits s =
           let r = next-rises c (f .reached) h there in
           let q = next-range c (f .reached) h there in
           record {
-            rate-most = rate-most;
+            rate-most = s .rate-most;
             farther = r .farther;
             no-less = r .no-less;
             deviation-most = q .deviation-le;
             share-most = q .share-le;
-            there = omega (arith, f .long);
-            room = λ d l. omega (arith, f .so-far .above d (omega arith), room d);
+            there = omega (arith, f .long, s .there);
+            room = λ d l. omega (arith, f .so-far .above d (omega arith), s .room d);
           }
 
       pub turn : {after : List ℕ} → length after ≡ length table →
@@ -78,12 +78,12 @@ module _ (c : Curve) (rate end : ℕ) (before : List ℕ) where
     flat-at : (d : ℕ) → wholes flat-parts 0 (d - last .deviation) ≡ rate * last .share
     flat-at d = start-value (2 ^ 32) (rate * last .share) (d - last .deviation) (omega arith)
 
-    pub fill-fits : rate ≤ 1000000 → end ≤ length before → Room (1000 * rate) before → FillFits flat-parts 0 (last .deviation) end table
-    fill-fits rate-most e room =
+    pub fill-fits : ServiceFits rate c end before → FillFits flat-parts 0 (last .deviation) end table
+    fill-fits s =
         record {
-          there = omega (arith, f .long);
-          parts-fit = omega (arith, flat-le);
-          room = λ d l m. omega (arith, flat-at d, flat-le, f .so-far .above d (omega arith), room d);
+          there = omega (arith, f .long, s .there);
+          parts-fit = omega (arith, flat-le, s .rate-most);
+          room = λ d l m. omega (arith, flat-at d, flat-le, f .so-far .above d (omega arith), s .room d);
         }
 
     pub done : {after : List ℕ} → c .count ≤ i → Added (last .deviation) end (λ (d : ℕ). wholes flat-parts 0 (d - last .deviation)) table after →

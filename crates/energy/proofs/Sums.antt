@@ -1,6 +1,6 @@
 -- A period's sums, by table and by response, and the answer that they give. Assumes nothing.
 use mathlib.Core.Path.{_≡_, refl, ap}
-use mathlib.Core.Bool.{Bool, true, false, not, _&&_, _||_}
+use mathlib.Core.Bool.{true, _||_}
 use mathlib.Core.List.{List, [], _∷_, map}
 use Prim.Native.Nat.{ℕ, _+_, _≤_}
 use native.Mathlib.Omega.{arith}
@@ -9,10 +9,12 @@ use lib.Dec.{leb, ltb}
 use lib.ListN.{length, getD, replicate}
 use Rattle.common.specs.Answer.{refused, cause, checked}
 use Rattle.common.specs.Lists.{sum}
-use Rattle.common.proofs.Tests.{not-leb}
+use Rattle.common.proofs.Tests.{not-leb, not-both}
+use Rattle.terms.specs.Terms.{Q}
 use Rattle.terms.specs.declared.Quantities.{Quantities}
+use Rattle.energy.specs.Curve.{curvesRule}
 use Rattle.energy.specs.Period.{goodReadings, lowDeviation, highDeviation, responses, boundsOf, BeforeReadings, fromReadings}
-use Rattle.energy.specs.Table.{largest, reach, reaches, Added, tableSum, tableSums, Covered, responseSums, Reaching}
+use Rattle.energy.specs.Table.{largest, reach, reaches, Added, DirectionFits, tableSum, tableSums, Covered, responseSums, Reaching}
 use Rattle.energy.specs.declared.curve.Curves.{Curves}
 use Rattle.energy.specs.declared.table.Deviations.{Deviations}
 use Rattle.energy.specs.declared.table.Sums.{Sums}
@@ -31,6 +33,16 @@ by-table deviation f n table a (r ∷ rs) h =
     rw (e, by-table deviation f n table a rs (omega arith))
 
 -- ---- both directions
+
+-- a table of zeros has room for a direction
+pub zeros-fit : (q : Quantities) (cs : Curves) (most : ℕ) → Q q ≤ 1000 → curvesRule cs ≡ true → most ≤ 3000 → DirectionFits q cs most (replicate 3001 0)
+zeros-fit q cs most few rules near =
+    record {
+      quantity-most = few;
+      rules = rules;
+      there = omega arith;
+      room = λ d. omega (arith, zeros-at 3001 d);
+    }
 
 module _ {most : Deviations} {rs : List ℕ} (h : Reaching most rs) where
   low-reach : reach lowDeviation rs ≤ most .low
@@ -56,10 +68,6 @@ module _ {most : Deviations} {rs : List ℕ} (h : Reaching most rs) where
         rw (by-table lowDeviation (responses low cs) n lows a rs low-reach, by-table highDeviation (responses high cs) n highs b rs high-reach)
 
 -- ---- the answer
-
-not-both : (a b : Bool) → not (a && b) ≡ not a || not b
-not-both true b = refl
-not-both false b = refl
 
 module _ (low high : Quantities) (cs : Curves) (rs : List ℕ) where
   -- what both directions of at most 1,000 MW respond

@@ -1,13 +1,17 @@
 -- What the private functions of table.rt ask and make: a period's energy by a table of responses for each direction. Assumes
 -- nothing.
 use mathlib.Core.Path.{_≡_}
+use mathlib.Core.Bool.{true}
 use mathlib.Core.List.{List, [], _∷_, map}
 use Prim.Native.Nat.{ℕ, _+_, _-_, _*_, _/_, _^_, _≤_, _<_, max}
 use lib.ListN.{length, getD}
 use Rattle.common.specs.Lists.{sum}
+use Rattle.terms.specs.Terms.{Q}
 use Rattle.terms.specs.declared.Quantities.{Quantities}
+use Rattle.energy.specs.Curve.{curveRule, curvesRule}
 use Rattle.energy.specs.Period.{lowDeviation, highDeviation, responseSum}
 use Rattle.energy.specs.declared.curve.Point.{Point}
+use Rattle.energy.specs.declared.curve.Curve.{Curve}
 use Rattle.energy.specs.declared.curve.Curves.{Curves}
 use Rattle.energy.specs.declared.table.Deviations.{Deviations}
 use Rattle.energy.specs.declared.table.Sums.{Sums}
@@ -57,6 +61,20 @@ pub record SegmentFits (rate : ℕ) (p q : Point) (end : ℕ) (table : List ℕ)
   pub share-most : q .share ≤ 1000
   pub there : end ≤ length table
   pub room : (d : ℕ) → p .deviation ≤ d → getD table d 0 + 1000 * rate < 2 ^ 32
+
+-- `fill_service`: a curve that keeps its rule, and room for 1,000 per mille of the rate
+pub record ServiceFits (rate : ℕ) (c : Curve) (end : ℕ) (table : List ℕ) : Type 0 where
+  pub rate-most : rate ≤ 1000000
+  pub rule : curveRule c ≡ true
+  pub there : end ≤ length table
+  pub room : Room (1000 * rate) table
+
+-- `fill_direction`: at most 1,000 MW, curves that keep their rule, and room for all of it
+pub record DirectionFits (q : Quantities) (cs : Curves) (most : ℕ) (table : List ℕ) : Type 0 where
+  pub quantity-most : Q q ≤ 1000
+  pub rules : curvesRule cs ≡ true
+  pub there : most < length table
+  pub room : Room (1000 * Q q) table
 
 -- ---- sums over the readings
 

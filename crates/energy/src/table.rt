@@ -1,12 +1,9 @@
 // Period energy in three passes: the largest deviations, a table of each direction's responses by deviation, and the sums.
 ghost use mathlib.Core.Path.{_≡_};
-ghost use mathlib.Core.Bool.{true};
-ghost use Prim.Native.Nat.{ℕ, _+_, _-_, _*_, _^_, _≤_, _<_, min, max};
-ghost use lib.ListN.{length};
-ghost use Rattle.terms.specs.Terms.{Q};
-ghost use Rattle.energy.specs.Curve.{pointsOf, curveRule, curvesRule, between, shareAt, responseTo};
+ghost use Prim.Native.Nat.{ℕ, _+_, _-_, _*_, _^_, min, max};
+ghost use Rattle.energy.specs.Curve.{pointsOf, between, shareAt, responseTo};
 ghost use Rattle.energy.specs.Period.{highDeviation, responses, BeforeReadings};
-ghost use Rattle.energy.specs.Table.{reaches, Added, Room, wholes, FillFits, SegmentFits, tableSums, Covered, responseSums, Reaching};
+ghost use Rattle.energy.specs.Table.{reaches, Added, wholes, FillFits, SegmentFits, ServiceFits, DirectionFits, tableSums, Covered, responseSums, Reaching};
 use crate::curve::Curve;
 use crate::curve::Curves;
 use crate::curve::Point;
@@ -100,7 +97,7 @@ fn fill_segment(rate: u32, p: Point, q: Point, end: usize, table: &mut [u32])
 
 // Adds the responses of a service to each deviation below an end.
 fn fill_service(rate: u32, curve: Curve, end: usize, table: &mut [u32])
-    requires { ⌜ (rate ≤ 1000000) × (curveRule curve ≡ true) × (end ≤ length (now table)) × Room (1000 * rate) (now table) ⌝ }
+    requires { ⌜ ServiceFits rate curve end (now table) ⌝ }
     ensures { λ r. ⌜ Added 0 end (λ (d : ℕ). responseTo rate (shareAt (pointsOf curve) d)) (now (table .entry)) (now (table .exit)) ⌝ }
 {
     if rate == 0 {
@@ -126,7 +123,7 @@ fn fill_service(rate: u32, curve: Curve, end: usize, table: &mut [u32])
 
 // Adds the responses of a direction's services to each deviation up to most.
 fn fill_direction(q: Quantities, curves: Curves, most: u16, table: &mut [u32])
-    requires { ⌜ (Q q ≤ 1000) × (curvesRule curves ≡ true) × (most < length (now table)) × Room (1000 * Q q) (now table) ⌝ }
+    requires { ⌜ DirectionFits q curves most (now table) ⌝ }
     ensures { λ r. ⌜ Added 0 (most + 1) (responses q curves) (now (table .entry)) (now (table .exit)) ⌝ }
 {
     let end = most as usize + 1;

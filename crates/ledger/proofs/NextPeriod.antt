@@ -40,9 +40,9 @@ need-fits q closed x few =
 
 -- ---- a record by its standing
 module _ (r : Record) (s : Standing) (is : s ≡ standingOf r) where
-  pub unusable-is : eqb (r .closed) 8 || not (s .holds) ≡ unusable r
+  pub unusable-is : {b : Bool} → b ≡ eqb (r .closed) 8 || not (s .holds) → b ≡ unusable r
   unfolding unusable standingOf
-  unusable-is = rw is
+  unusable-is e = rw is at e
 
   module _ (e : unusable r ≡ false) where
     pub low-fits : NeedFits (s .low)

@@ -1,6 +1,8 @@
 // The ledger: checking, proposing and closing, over the record of ledger_record.
 ghost use mathlib.Core.Path.{_≡_};
+ghost use mathlib.Core.Bool.{not, _||_};
 ghost use Prim.Native.Nat.{_+_, _≤_, _<_, _^_};
+ghost use lib.Dec.{eqb};
 ghost use lib.IntN.{pos, _+ℤ_, _-ℤ_};
 ghost use Rattle.common.specs.Answer.{numberOf, orBlank};
 ghost use Rattle.signed.specs.Sign.{within};
@@ -43,6 +45,13 @@ pub struct Closed {
     pub record: Record,
 }
 
+// Refusal 10, by the standing.
+fn is_unusable(closed: u32, holds: bool) -> bool
+    ensures { λ r. ⌜ r ≡ (eqb closed 8 || not holds) ⌝ }
+{
+    (closed == 8) | !holds
+}
+
 // ---- checking
 
 // The greater of 0 and start + back of the period that begins so.
@@ -82,7 +91,7 @@ pub fn check_purchase(given: Record, purchase: i64) -> CheckAnswer
     ensures { λ r. ⌜ checkAnswerOf r ≡ checking given purchase ⌝ }
 {
     let s = ledger_record::standing_of(given);
-    if (given.closed == 8) | !s.holds {
+    if is_unusable(given.closed, s.holds) {
         return CheckAnswer::Unusable;
     }
     let low = s.low;
@@ -116,7 +125,7 @@ pub fn propose_purchase(given: Record) -> ProposeAnswer
     ensures { λ r. ⌜ proposeAnswerOf r ≡ proposing given ⌝ }
 {
     let s = ledger_record::standing_of(given);
-    if (given.closed == 8) | !s.holds {
+    if is_unusable(given.closed, s.holds) {
         return ProposeAnswer::Unusable;
     }
     let low = s.low;
@@ -264,7 +273,7 @@ pub fn close_period(
     ensures beside { λ r. ⌜ r .«record» ≡ orBlank given (closing given (closingWith purchase (now (readings .entry)) delivered taken)) ⌝ }
 {
     let s = ledger_record::standing_of(given);
-    if (given.closed == 8) | !s.holds {
+    if is_unusable(given.closed, s.holds) {
         return refuse(CloseAnswer::Unusable, given);
     }
     let low_next = s.low;

@@ -114,10 +114,10 @@ fn compare(
     while i < count {
         let bound = bounds[i];
         let back = backs[i];
-        let row = row_of(rev, er, bound, left, back, shortfall);
-        same = same & is_noted(requirements[i], schedules[i], row.start, row.sched);
-        backs[i + 4] = row.sched;
-        left = left + bound as u64 - row.sched;
+        let made = row_of(rev, er, bound, left, back, shortfall);
+        same = same & is_noted(requirements[i], schedules[i], made.start, made.sched);
+        backs[i + 4] = made.sched;
+        left = left + bound as u64 - made.sched;
         shortfall = shortfall + bound as u64 - back;
         i += 1;
     }

@@ -8,31 +8,37 @@ use Rattle.ledger.proofs.NextPeriod.{unusable-is, low-fits, high-fits, 
 use Rattle.ledger.proofs.check_purchase.Statement.{statement}
 use Rattle.ledger.proofs.check_purchase.Tie as tie
 
-abbrev stands : tie.Else1 → tie.After-standing-of
-stands c = c .before .before .before
+abbrev stands : tie.After-is-unusable → tie.After-standing-of
+stands c = c .before
 
-can-use : (c : tie.Else1) → unusable (stands c .before .args .given) ≡ false
-can-use c = sym (unusable-is _ _ (stands c .standing-of .ensures)) ∙ c .if1 .left
+tested : (c : tie.After-is-unusable) → c .is-unusable .result ≡ unusable (stands c .before .args .given)
+tested c = unusable-is _ _ (stands c .standing-of .ensures) (c .is-unusable .ensures)
+
+can-use : (c : tie.Else1) → unusable (stands (c .before) .before .args .given) ≡ false
+can-use c = sym (tested (c .before)) ∙ c .if1 .left
 
 accepted-is : (c : tie.After-is-accepted) →
-    let a = stands (c .before .before .before) .before .args in
+    let a = stands (c .before .before .before .before) .before .args in
     c .is-accepted .result ≡ accepts (a .given) (a .purchase)
 accepted-is c =
     let e = c .before .before .before in
-    let s = stands e in
+    let s = stands (e .before) in
     accepts-is _ _ (s .standing-of .ensures) (can-use e) (s .before .args .purchase) (rw (toZ-ofZ (s .before .fits .purchase)) at (c .is-accepted .ensures))
 
 standing-of-requires : tie.Need-standing-of-requires
 standing-of-requires c κs = search needs
 
+is-unusable-requires : tie.Need-is-unusable-requires
+is-unusable-requires c κs = search needs
+
 returns : tie.Need-returns
 unfolding checking
-returns c = rw (← unusable-is _ _ (c .before .before .before .standing-of .ensures), c .if1 .taken)
+returns c = rw (← tested (c .before), c .if1 .taken)
 
 is-accepted-requires : tie.Need-is-accepted-requires
 is-accepted-requires c κs =
     let e = c .before .before in
-    let is = stands e .standing-of .ensures in
+    let is = stands (e .before) .standing-of .ensures in
     (low-fits _ _ is (can-use e), high-fits _ _ is (can-use e))
 
 returns-2 : tie.Need-returns-2
@@ -45,4 +51,5 @@ returns-3 c = rw (can-use (c .before .before .before .before), ← accepted-is (
 
 pub check-purchase-spec : {M : Type 1} → statement M
 check-purchase-spec =
-    tie.close (tie.spec standing-of-requires returns is-accepted-requires returns-2 returns-3)
+    tie.close
+    (tie.spec standing-of-requires is-unusable-requires returns is-accepted-requires returns-2 returns-3)

@@ -35,16 +35,23 @@ eight c =
     let high-bounds = from-low .1 .0 .1 .0 in
     (search needs, search needs)
 
+-- ---- what the test of 10 says
+abbrev stood : tie.After-is-unusable → tie.After-standing-of
+stood c = c .before
+
+tested : (c : tie.After-is-unusable) → c .is-unusable .result ≡ unusable (stood c .before .before .args .given)
+tested c = unusable-is _ _ (stood c .standing-of .ensures) (c .is-unusable .ensures)
+
 -- ---- what is known once 10 does not hold
 module _ (c : tie.Else1) where
   abbrev stands : tie.After-standing-of
-  stands = c .before .before .before
+  stands = stood (c .before)
 
   abbrev start : tie.Start
   start = stands .before .before
 
   can-use : unusable (start .args .given) ≡ false
-  can-use = sym (unusable-is _ _ (stands .standing-of .ensures)) ∙ c .if1 .left
+  can-use = sym (tested (c .before)) ∙ c .if1 .left
 
   opens : let g = start .args .given in LetThrough (g .terms) (g .curves) (g .size) (g .first)
   opens = opened _ (rule-kept _ can-use)
@@ -121,6 +128,9 @@ module _ (c : tie.After-settle) where
 standing-of-requires : tie.Need-standing-of-requires
 standing-of-requires c κs = search needs
 
+is-unusable-requires : tie.Need-is-unusable-requires
+is-unusable-requires c κs = search needs
+
 refuse-requires : tie.Need-refuse-requires
 refuse-requires c κs = search needs
 
@@ -128,7 +138,7 @@ returns : tie.Need-returns
 unfolding closing
 returns c =
     let t = c .before in
-    rw (c .refuse .ensures, ← unusable-is _ _ (t .before .before .before .standing-of .ensures), t .if1 .taken) (refl, refl)
+    rw (c .refuse .ensures, ← tested (t .before), t .if1 .taken) (refl, refl)
 
 is-accepted-requires : tie.Need-is-accepted-requires
 is-accepted-requires c κs =
@@ -217,6 +227,7 @@ close-period-spec =
     tie.close
     (tie.spec
     standing-of-requires
+    is-unusable-requires
     refuse-requires
     returns
     is-accepted-requires

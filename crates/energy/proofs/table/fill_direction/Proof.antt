@@ -27,7 +27,7 @@ room g =
     let s = start g in
     let q = s .args .q in
     room-left (g .fill-service .ensures) (1000 * q .dm + 1000 * q .dr) (1000 * q .dc)
-    (response-le (q .dc) (s .args .curves .dc) (rules (s .args .curves) (s .pre .1) .dc)) (λ d. omega (arith, s .pre .3 d))
+    (response-le (q .dc) (s .args .curves .dc) (rules (s .args .curves) (s .pre .rules) .dc)) (λ d. omega (arith, s .pre .room d))
 
 room2 : (g : tie.After-fill-service2) → Room (1000 * start (first g) .args .q .dr) (g .fill-service2 .last .1 .1 .1 .0)
 unfolding response
@@ -35,7 +35,7 @@ room2 g =
     let s = start (first g) in
     let q = s .args .q in
     room-left (g .fill-service2 .ensures) (1000 * q .dr) (1000 * q .dm)
-    (response-le (q .dm) (s .args .curves .dm) (rules (s .args .curves) (s .pre .1) .dm)) (room (first g))
+    (response-le (q .dm) (s .args .curves .dm) (rules (s .args .curves) (s .pre .rules) .dm)) (room (first g))
 
 long : (g : tie.After-fill-service) → length (g .fill-service .last .1 .1 .1 .0) ≡ length (start g .args .table .now)
 long g = g .fill-service .kept .1 .1 .1 .0
@@ -49,19 +49,34 @@ add-end c = search needs
 fill-service-requires : tie.Need-fill-service-requires
 fill-service-requires c κs =
     let s = c .before .before in
-    (omega (arith, s .pre .0), rules (s .args .curves) (s .pre .1) .dc, omega (arith, s .pre .2), λ d. omega (arith, s .pre .3 d))
+    record {
+      rate-most = omega (arith, s .pre .quantity-most);
+      rule = rules (s .args .curves) (s .pre .rules) .dc;
+      there = omega (arith, s .pre .there);
+      room = λ d. omega (arith, s .pre .room d);
+    }
 
 fill-service-requires-2 : tie.Need-fill-service-requires-2
 fill-service-requires-2 c κs =
     let g = c .before .before .before in
     let s = start g in
-    (omega (arith, s .pre .0), rules (s .args .curves) (s .pre .1) .dm, omega (arith, s .pre .2, long g), λ d. omega (arith, room g d))
+    record {
+      rate-most = omega (arith, s .pre .quantity-most);
+      rule = rules (s .args .curves) (s .pre .rules) .dm;
+      there = omega (arith, s .pre .there, long g);
+      room = λ d. omega (arith, room g d);
+    }
 
 fill-service-requires-3 : tie.Need-fill-service-requires-3
 fill-service-requires-3 c κs =
     let g = c .before .before .before in
     let s = start (first g) in
-    (omega (arith, s .pre .0), rules (s .args .curves) (s .pre .1) .dr, omega (arith, s .pre .2, long2 g), room2 g)
+    record {
+      rate-most = omega (arith, s .pre .quantity-most);
+      rule = rules (s .args .curves) (s .pre .rules) .dr;
+      there = omega (arith, s .pre .there, long2 g);
+      room = room2 g;
+    }
 
 same-length : tie.Need-same-length
 same-length c = search needs

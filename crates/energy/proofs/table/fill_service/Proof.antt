@@ -31,7 +31,7 @@ ended a = a .before .before
 points-there : (s : tie.Start Inv-loop μ-loop) → s .args .t2 .count ≤ length (s .args .t2 .points)
 points-there s =
     let five : length (s .args .t2 .points) ≡ 5 = sym (length-map (s .args .t2 .points) _) ∙ s .good .1 .0 .1 .1 .1 .0 .1 .0 .1 in
-    omega (arith, counted (s .args .t2) (s .pre .1))
+    omega (arith, counted (s .args .t2) (s .pre .rule))
 
 returns : tie.Need-returns Inv-loop μ-loop
 returns c = none (c .before .before .args .t2) _ _ _ (c .if1 .taken)
@@ -43,19 +43,19 @@ element-copy-out-last : tie.Need-element-copy-out-last Inv-loop μ-loop
 element-copy-out-last c = search needs
 
 loop-holds : tie.Need-loop-holds Inv-loop μ-loop
-loop-holds c = let s = c .before .before .before in begin _ _ _ _ (s .pre .1) (points-there s)
+loop-holds c = let s = c .before .before .before in begin _ _ _ _ (s .pre .rule) (points-there s)
 
 mul-next : tie.Need-mul-next Inv-loop μ-loop
 mul-next c = search needs
 
 element-copy-out-next : tie.Need-element-copy-out-next Inv-loop μ-loop
-element-copy-out-next c = let s = start (c .before) in omega (arith, c .loop-test .taken, counted (s .args .t2) (s .pre .1))
+element-copy-out-next c = let s = start (c .before) in omega (arith, c .loop-test .taken, counted (s .args .t2) (s .pre .rule))
 
 fill-segment-requires : tie.Need-fill-segment-requires Inv-loop μ-loop
 fill-segment-requires c κs =
     let t = c .before .before in
     let s = start (t .before) in
-    segment-fits _ _ _ _ (t .before .loop .inv) (t .loop-test .taken) (points-there s) (s .pre .0) (s .pre .2) (s .pre .3)
+    segment-fits _ _ _ _ (t .before .loop .inv) (t .loop-test .taken) (points-there s) (s .pre)
 
 add-i : tie.Need-add-i Inv-loop μ-loop
 add-i c = omega (arith, this-turn c .loop-test .taken)
@@ -73,7 +73,7 @@ cast-parts-of : tie.Need-cast-parts-of Inv-loop μ-loop
 cast-parts-of c = search needs
 
 mul-parts-of : tie.Need-mul-parts-of Inv-loop μ-loop
-mul-parts-of c = let l = c .before .before in omega (arith, flat-le _ _ _ _ (l .loop .inv), start l .pre .0)
+mul-parts-of c = let l = c .before .before in omega (arith, flat-le _ _ _ _ (l .loop .inv), start l .pre .rate-most)
 
 parts-of-requires : tie.Need-parts-of-requires Inv-loop μ-loop
 parts-of-requires c κs = search needs
@@ -86,7 +86,7 @@ fill-requires c κs =
     let a = c .before .before in
     let l = ended a .before in
     let s = start l in
-    rw (a .parts-of .ensures) (fill-fits _ _ _ _ (l .loop .inv) (s .pre .0) (s .pre .2) (s .pre .3))
+    rw (a .parts-of .ensures) (fill-fits _ _ _ _ (l .loop .inv) (s .pre))
 
 same-length : tie.Need-same-length Inv-loop μ-loop
 same-length c =

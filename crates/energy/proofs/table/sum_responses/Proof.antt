@@ -4,8 +4,7 @@ use mathlib.Core.List.{List}
 use Prim.Native.Nat.{ℕ}
 use native.Mathlib.Omega.{arith}
 use borrow.Author.Needs.{needs}
-use Rattle.energy.proofs.Sums.{covered, same-sums}
-use Rattle.energy.proofs.Tables.{zeros-at}
+use Rattle.energy.proofs.Sums.{zeros-fit, covered, same-sums}
 use Rattle.energy.proofs.table.sum_responses.Statement.{statement}
 use Rattle.energy.proofs.table.sum_responses.Tie as tie
 
@@ -28,7 +27,7 @@ slice-aggregate-fill-direction c = search needs
 fill-direction-requires : tie.Need-fill-direction-requires
 fill-direction-requires c κs =
     let s = c .before .before in
-    (s .pre .0 .low-most, s .pre .0 .curves, omega (arith, s .pre .1 .low-most), λ d. omega (arith, zeros-at 3001 d, s .pre .0 .low-most))
+    zeros-fit _ _ _ (s .pre .0 .low-most) (s .pre .0 .curves) (s .pre .1 .low-most)
 
 slice-aggregate-fill-direction-2 : tie.Need-slice-aggregate-fill-direction-2
 slice-aggregate-fill-direction-2 c = search needs
@@ -36,7 +35,7 @@ slice-aggregate-fill-direction-2 c = search needs
 fill-direction-requires-2 : tie.Need-fill-direction-requires-2
 fill-direction-requires-2 c κs =
     let s = start (c .before .before) in
-    (s .pre .0 .high-most, s .pre .0 .curves, omega (arith, s .pre .1 .high-most), λ d. omega (arith, zeros-at 3001 d, s .pre .0 .high-most))
+    zeros-fit _ _ _ (s .pre .0 .high-most) (s .pre .0 .curves) (s .pre .1 .high-most)
 
 slice-aggregate-sum-table : tie.Need-slice-aggregate-sum-table
 slice-aggregate-sum-table c = search needs
