@@ -121,9 +121,10 @@ fn compare(
         shortfall = shortfall + bound as u64 - back;
         i += 1;
     }
+    let back = backs[count];
     let next = Next {
         left,
-        back: backs[count],
+        back,
         start: less_shortfall(rev, shortfall),
     };
     Matched { same, next }

@@ -121,11 +121,11 @@ loop-again c =
     step _ _ _ _ _ _ (l .loop .inv) (t .loop-test .taken) (l .before .pre .1) _ (told .before .before .row-of .ensures) (bound-fits t .fits)
     (rw (toZ-ofZ (requirement-read (told .before)), toZ-ofZ (start-read told)) at (n .is-noted .ensures))
 
-mul-t36 : tie.Need-mul-t36 Inv-loop μ-loop
-mul-t36 c = search needs
+mul-back-2 : tie.Need-mul-back-2 Inv-loop μ-loop
+mul-back-2 c = search needs
 
-array-read-t39 : tie.Need-array-read-t39 Inv-loop μ-loop
-array-read-t39 c = search needs
+array-read-back-2 : tie.Need-array-read-back-2 Inv-loop μ-loop
+array-read-back-2 c = search needs
 
 less-shortfall-requires : tie.Need-less-shortfall-requires Inv-loop μ-loop
 less-shortfall-requires c κs = search needs
@@ -165,7 +165,7 @@ compare-spec =
     add-i
     loop-less
     loop-again
-    mul-t36
-    array-read-t39
+    mul-back-2
+    array-read-back-2
     less-shortfall-requires
     returns)
