@@ -666,16 +666,15 @@ fn sorted(mut xs: Vec<f64>) -> Vec<f64> {
     xs
 }
 
-// The proved code against each of the others, in turn.
-fn compare(work: &str, of: &str, count: usize, ours: impl Fn(usize), others: &[&dyn Fn(usize)]) {
-    let mut own = Vec::new();
-    let mut times = vec![Vec::new(); others.len()];
+// The first way, which is the proved code, against each of the others, in turn.
+fn compare(work: &str, of: &str, count: usize, ways: &[&dyn Fn(usize)]) {
+    let mut times = vec![Vec::new(); ways.len()];
     for _ in 0..REPETITIONS {
-        own.push(time(count, &ours));
-        for (all, other) in times.iter_mut().zip(others) {
-            all.push(time(count, other));
+        for (all, way) in times.iter_mut().zip(ways) {
+            all.push(time(count, way));
         }
     }
+    let own = times.remove(0);
     let middle = REPETITIONS / 2;
     print!("{:14} {:38} {:9.3}", work, of, sorted(own.clone())[0]);
     for all in times {
@@ -704,7 +703,7 @@ fn periods(kinds: &[(&str, Vec<Vec<u16>>)]) {
                     }
                 };
                 let of = format!("{name}, {services}, {shape}");
-                compare("period energy", &of, PERIODS, run(proved_period), &[&run(plain_period), &run(sketched_period)]);
+                compare("period energy", &of, PERIODS, &[&run(proved_period), &run(plain_period), &run(sketched_period)]);
             }
         }
     }
@@ -757,7 +756,7 @@ fn reports(random: &mut Random) {
                 black_box(f(black_box(&texts[i]), black_box(&mut output)));
             }
         };
-        compare("report", name, texts.len(), run(proved_report), &[&run(plain_report)]);
+        compare("report", name, texts.len(), &[&run(proved_report), &run(plain_report)]);
     }
 }
 
@@ -772,7 +771,7 @@ fn term_checks(random: &mut Random) {
                 black_box(f(black_box(&all[i])));
             }
         };
-        compare("terms check", name, all.len(), run(proved_terms), &[&run(plain_terms)]);
+        compare("terms check", name, all.len(), &[&run(proved_terms), &run(plain_terms)]);
     }
 }
 
@@ -812,17 +811,24 @@ fn closings(kinds: &[(&str, Vec<Vec<u16>>)]) {
                 black_box(f(black_box(unit), black_box(8), black_box(&all[i]), black_box(&periods[i])));
             }
         };
-        compare("eight closings", name, PERIODS, run(proved_closings), &[&run(plain_closings)]);
+        compare("eight closings", name, PERIODS, &[&run(proved_closings), &run(plain_closings)]);
     }
-    // the record rule and the purchase, without the readings
-    same_closings(unit, 8, &c(1000, 0, 0), &[], 0, 150_000);
-    let run = |f: fn([u32; 3], u32, &Closing, &[u16]) -> u64| {
-        let c = c(1000, 0, 0);
-        move |_: usize| {
-            black_box(f(black_box(unit), black_box(8), black_box(&c), black_box(&[])));
-        }
-    };
-    compare("eight closings", "no readings: refused", 1000, run(proved_closings), &[&run(plain_closings)]);
+    // refused before a reading is looked at: what the record rule and the purchase cost by themselves
+    let refused = [
+        ("no readings: refused", unit, 1000, 150_000),
+        ("purchase refused", unit, 1_000_000, 150_000),
+        ("blank record refused", [0, 300_000, 150_000], 0, 0),
+    ];
+    for (name, unit, purchase, state) in refused {
+        same_closings(unit, 8, &c(purchase, 0, 0), &[], 0, state);
+        let run = |f: fn([u32; 3], u32, &Closing, &[u16]) -> u64| {
+            let c = c(purchase, 0, 0);
+            move |_: usize| {
+                black_box(f(black_box(unit), black_box(8), black_box(&c), black_box(&[])));
+            }
+        };
+        compare("eight closings", name, 1000, &[&run(proved_closings), &run(plain_closings)]);
+    }
 }
 
 fn main() {
