@@ -1,5 +1,5 @@
 -- The loop of `compare`: after i turns, whether the entries of the periods 1 to i are those of their bounds. Assumes nothing.
-use mathlib.Core.Path.{_≡_, refl, ap}
+use mathlib.Core.Path.{_≡_, refl}
 use mathlib.Core.Bool.{Bool, true, _&&_}
 use mathlib.Core.List.{List}
 use Prim.Native.Nat.{ℕ, suc, _+_, _-_, _≤_, _<_, _^_}
@@ -11,7 +11,6 @@ use Rattle.common.specs.Lists.{every}
 use Rattle.common.specs.Periods.{periodsTo, ofPeriod}
 use Rattle.common.proofs.Periods.{every-next}
 use Rattle.requirement.specs.Requirement.{sched, start, rowFrom, rowOf, noted, requirementIn, matchedTo}
-use Rattle.requirement.specs.declared.Matched.{Matched}
 use Rattle.requirement.specs.declared.Row.{Row}
 use Rattle.requirement.proofs.Shortfall.{start-is}
 use Rattle.requirement.proofs.Walking.{Walked, set-out, row-is, onward}

@@ -1,5 +1,4 @@
 -- `ledger::is_accepted` meets its contract. Assumes nothing.
-use borrow.Author.Needs.{needs}
 use mir.Facts.{toZ-ofZ}
 use Rattle.ledger.proofs.is_accepted.Statement.{statement}
 use Rattle.ledger.proofs.is_accepted.Tie as tie

@@ -2,11 +2,7 @@
 -- nothing.
 use Prim.Native.Nat.{_-_}
 use borrow.Author.Needs.{needs, sfits-of}
-use lib.IntN.{pos}
-use lib.ListN.{getD}
 use mir.Facts.{toZ-ofZ}
-use mir.Syntax.{w64}
-use mir.Val.{SFits}
 use Rattle.ledger_record.proofs.Entry.{HeldSoFar, begin, step, done}
 use Rattle.ledger_record.proofs.entries_within.Statement.{statement}
 use Rattle.ledger_record.proofs.entries_within.Tie as tie

@@ -2,7 +2,6 @@
 use mathlib.Core.Path.{_∙_}
 use mathlib.Core.List.{List}
 use Prim.Native.Nat.{ℕ}
-use native.Mathlib.Omega.{arith}
 use borrow.Author.Needs.{needs}
 use Rattle.energy.proofs.Sums.{zeros-fit, covered, same-sums}
 use Rattle.energy.proofs.table.sum_responses.Statement.{statement}
