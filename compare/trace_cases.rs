@@ -172,6 +172,15 @@ fn bad_readings(random: &mut Random, count: usize) -> Vec<u16> {
 
 // Period energy
 
+/// The greatest common divisor.
+fn divisor(a: Int, b: Int) -> Int {
+    if b == 0 {
+        a
+    } else {
+        divisor(b, a % b)
+    }
+}
+
 /// A few hundred scripts, each once: curves broken in each way, readings at each corner, each reading by itself.
 pub fn energy_edges(random: &mut Random, runs: &mut Runs, tally: &mut Tally) {
     const TOPIC: &str = "energy, edges";
@@ -205,6 +214,31 @@ pub fn energy_edges(random: &mut Random, runs: &mut Runs, tally: &mut Tally) {
         }
     }
     runs.add(script, tally);
+    // Segments as wide as can be, at deviations where MW times the share is a whole number, and beside them.
+    for (width, rise) in [
+        (3_000, 1_000),
+        (2_999, 1_000),
+        (2_999, 1),
+        (2_997, 999),
+        (2_048, 1_000),
+    ] {
+        let mut script = Script::new(TOPIC);
+        let curve = Curve(vec![(3_000 - width, 0), (3_000, rise)]);
+        script.curves(&[curve.clone(), curve.clone(), curve]);
+        for mw in [1, 7, 997, 1_000] {
+            let step = width / divisor(width, mw * rise);
+            for _ in 0..6 {
+                let whole = step * random.within(0, width / step);
+                for past in [whole - 1, whole, whole + 1] {
+                    let d = (3_000 - width + past).clamp(0, 3_000) as u16;
+                    script.read(50_000 - d, PERIOD / 2);
+                    script.read(50_000 + d, PERIOD / 2);
+                    script.energy(&Direction([mw, 0, 0]), &Direction([0, 0, mw]));
+                }
+            }
+        }
+        runs.add(script, tally);
+    }
     // Every reading at least once; the least energy that a single reading gives.
     for curves in [
         [containment(), regulation(), regulation()],

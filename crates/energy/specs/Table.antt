@@ -32,7 +32,7 @@ reaches rs = record { low = reach lowDeviation rs; high = reach highDeviation rs
 
 -- ---- a table of responses: entry d is that to a deviation of d
 
--- f was added to the entries from one on and below an end, and to no other
+-- f was added to the entries from `from` up to `end`, and to no other
 pub record Added (from end : ℕ) (f : ℕ → ℕ) (before after : List ℕ) : Type 0 where
   pub inside : (d : ℕ) → from ≤ d → d < end → getD after d 0 ≡ getD before d 0 + f d
   pub below : (d : ℕ) → d < from → getD after d 0 ≡ getD before d 0
@@ -52,7 +52,7 @@ pub record FillFits (first step from end : ℕ) (table : List ℕ) : Type 0 wher
   pub parts-fit : first + step * (end - from) < 2 ^ 64
   pub room : (d : ℕ) → from ≤ d → d < end → getD table d 0 + wholes first step (d - from) < 2 ^ 32
 
--- `fill_segment`: two points as the rule has them, and from the first on room for 1,000 per mille of the rate
+-- `fill_segment`: a rate of which 1,000 per mille are a u32, two points as the rule has them, and room from the first on
 pub record SegmentFits (rate : ℕ) (p q : Point) (end : ℕ) (table : List ℕ) : Type 0 where
   pub rate-most : rate ≤ 1000000
   pub farther : p .deviation < q .deviation
@@ -62,7 +62,7 @@ pub record SegmentFits (rate : ℕ) (p q : Point) (end : ℕ) (table : List ℕ)
   pub there : end ≤ length table
   pub room : (d : ℕ) → p .deviation ≤ d → getD table d 0 + 1000 * rate < 2 ^ 32
 
--- `fill_service`: a curve that keeps its rule, and room for 1,000 per mille of the rate
+-- `fill_service`: a curve that keeps its rule, and room for 1,000 per mille of such a rate
 pub record ServiceFits (rate : ℕ) (c : Curve) (end : ℕ) (table : List ℕ) : Type 0 where
   pub rate-most : rate ≤ 1000000
   pub rule : curveRule c ≡ true

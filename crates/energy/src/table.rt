@@ -50,7 +50,7 @@ pub(crate) fn largest_deviations(readings: &[u16]) -> Deviations
 
 // ---- a table of responses
 
-// Adds to each entry from one on the whole ones of some parts, which rise by a step from entry to entry.
+// Adds to the entries from `from` up to `end` the whole ones of some parts, which rise by a step from entry to entry.
 fn fill(first: u64, step: u64, from: usize, end: usize, table: &mut [u32])
     requires { ⌜ FillFits first step from end (now table) ⌝ }
     ensures { λ r. ⌜ Added from end (λ (d : ℕ). wholes first step (d - from)) (now (table .entry)) (now (table .exit)) ⌝ }

@@ -1,6 +1,6 @@
 pub mod Shortfall
 pub mod Laws
 pub mod Need
-pub mod Walking
+pub mod Passing
 pub mod Filling
 pub mod Matching

@@ -8,7 +8,7 @@ use mir.Syntax.{w32, w64}
 use mir.Val.{Fits, SFits}
 use mir.Facts.{toZ-ofZ}
 use Rattle.requirement.proofs.Matching.{SameSoFar, begin, step, done}
-use Rattle.requirement.proofs.Walking.{back-fits, sched-fits}
+use Rattle.requirement.proofs.Passing.{back-fits, sched-fits}
 use Rattle.requirement.proofs.compare.Statement.{statement}
 use Rattle.requirement.proofs.compare.Tie as tie
 
@@ -57,9 +57,9 @@ row-of-requires : tie.Need-row-of-requires Inv-loop μ-loop
 row-of-requires c κs =
     record {
       rev-most = c .before .before .pre .0;
-      left-most = omega (arith, c .before .loop .inv .walked);
-      short-most = omega (arith, c .before .loop .inv .walked);
-      back-most = back-fits _ _ _ (c .before .loop .inv .walked) (below-eight c);
+      left-most = omega (arith, c .before .loop .inv .passed);
+      short-most = omega (arith, c .before .loop .inv .passed);
+      back-most = back-fits _ _ _ (c .before .loop .inv .passed) (below-eight c);
     }
 
 mul-is-noted : tie.Need-mul-is-noted Inv-loop μ-loop
@@ -90,21 +90,21 @@ cast-left : tie.Need-cast-left Inv-loop μ-loop
 cast-left c = search needs
 
 add-left : tie.Need-add-left Inv-loop μ-loop
-add-left c = omega (arith, bound-fits (turn c), (turn c) .before .loop .inv .walked)
+add-left c = omega (arith, bound-fits (turn c), (turn c) .before .loop .inv .passed)
 
 sub-left : tie.Need-sub-left Inv-loop μ-loop
 sub-left c =
     let t = turn (c .before) in
-    sched-fits _ _ _ (t .before .loop .inv .walked) (below-eight t) _ (c .before .before .before .before .row-of .ensures)
+    sched-fits _ _ _ (t .before .loop .inv .passed) (below-eight t) _ (c .before .before .before .before .row-of .ensures)
 
 cast-shortfall : tie.Need-cast-shortfall Inv-loop μ-loop
 cast-shortfall c = search needs
 
 add-shortfall : tie.Need-add-shortfall Inv-loop μ-loop
-add-shortfall c = let t = turn (c .before) in omega (arith, bound-fits t, t .before .loop .inv .walked)
+add-shortfall c = let t = turn (c .before) in omega (arith, bound-fits t, t .before .loop .inv .passed)
 
 sub-shortfall : tie.Need-sub-shortfall Inv-loop μ-loop
-sub-shortfall c = let t = turn (c .before) in omega (arith, back-fits _ _ _ (t .before .loop .inv .walked) (below-eight t))
+sub-shortfall c = let t = turn (c .before) in omega (arith, back-fits _ _ _ (t .before .loop .inv .passed) (below-eight t))
 
 add-i : tie.Need-add-i Inv-loop μ-loop
 add-i c = search needs

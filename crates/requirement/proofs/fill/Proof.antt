@@ -11,7 +11,7 @@ use Rattle.common.specs.Periods.{ofPeriod}
 use Rattle.requirement.specs.Requirement.{tableOf}
 use Rattle.requirement.proofs.Shortfall.{start-is}
 use Rattle.requirement.proofs.Filling.{Filled, begin, done, step}
-use Rattle.requirement.proofs.Walking.{back-fits, sched-fits}
+use Rattle.requirement.proofs.Passing.{back-fits, sched-fits}
 use Rattle.requirement.proofs.fill.Statement.{statement}
 use Rattle.requirement.proofs.fill.Tie as tie
 
@@ -49,7 +49,7 @@ row-of-requires-2 c κs =
       rev-most = c .before .before .before .pre;
       left-most = omega arith;
       short-most = omega arith;
-      back-most = back-fits _ _ _ (c .before .loop .inv .walked) (c .loop-test .taken);
+      back-most = back-fits _ _ _ (c .before .loop .inv .passed) (c .loop-test .taken);
     }
 
 mul-rows : tie.Need-mul-rows Inv-loop μ-loop
@@ -76,7 +76,7 @@ add-left c = omega (arith, bound-fits (c .before))
 sub-left : tie.Need-sub-left Inv-loop μ-loop
 sub-left c =
     let a = c .before .before in
-    sched-fits _ _ _ (a .before .loop .inv .walked) (a .loop-test .taken) _ (c .before .row-of2 .ensures)
+    sched-fits _ _ _ (a .before .loop .inv .passed) (a .loop-test .taken) _ (c .before .row-of2 .ensures)
 
 cast-shortfall : tie.Need-cast-shortfall Inv-loop μ-loop
 cast-shortfall c = search needs
@@ -87,7 +87,7 @@ add-shortfall c = omega (arith, bound-fits (c .before .before))
 sub-shortfall : tie.Need-sub-shortfall Inv-loop μ-loop
 sub-shortfall c =
     let a = c .before .before in
-    omega (arith, back-fits _ _ _ (a .before .loop .inv .walked) (a .loop-test .taken))
+    omega (arith, back-fits _ _ _ (a .before .loop .inv .passed) (a .loop-test .taken))
 
 add-i : tie.Need-add-i Inv-loop μ-loop
 add-i c = search needs

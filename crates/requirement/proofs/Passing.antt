@@ -22,7 +22,7 @@ module _ (REV ER : ℕ) (bounds : List ℕ) where
   unfolding rowOf sched end
   made-is i = rw (start-is REV ER e i)
 
-  pub record Walked (backs : List ℕ) (l s i : ℕ) : Type 0 where
+  pub record Passed (backs : List ℕ) (l s i : ℕ) : Type 0 where
     pub within : i ≤ 8
     pub backs-long : length backs ≡ 12
     pub left-le : l ≤ 2 ^ 32 * i
@@ -31,9 +31,9 @@ module _ (REV ER : ℕ) (bounds : List ℕ) where
     pub short-is : s ≡ shortfall ER e (suc i)
     pub backs-are : (k : ℕ) → k < i + 4 → getD backs k 0 ≡ back ER e (suc k)
 
-  pub set-out : Walked (replicate 12 0) 0 0 0
+  pub none-passed : Passed (replicate 12 0) 0 0 0
   unfolding left shortfall
-  set-out =
+  none-passed =
       record {
         within = omega arith;
         backs-long = refl;
@@ -45,7 +45,7 @@ module _ (REV ER : ℕ) (bounds : List ℕ) where
       }
 
   -- a turn, with the row that was made
-  module _ {backs : List ℕ} {l s i : ℕ} (w : Walked backs l s i) (h : i < 8) where
+  module _ {backs : List ℕ} {l s i : ℕ} (w : Passed backs l s i) (h : i < 8) where
     back-is : getD backs i 0 ≡ back ER e (suc i)
     back-is = w .backs-are i (omega arith)
 
@@ -66,9 +66,9 @@ module _ (REV ER : ℕ) (bounds : List ℕ) where
       pub sched-fits : row .sched ≤ l + getD bounds i 0
       sched-fits = omega (arith, sched-is, sched-le ER e (suc i), here)
 
-      pub onward : getD bounds i 0 < 2 ^ 32 → Walked (set backs (i + 4) (row .sched)) (l + getD bounds i 0 - row .sched) (s + getD bounds i 0 - getD backs i 0) (i + 1)
+      pub one-passed : getD bounds i 0 < 2 ^ 32 → Passed (set backs (i + 4) (row .sched)) (l + getD bounds i 0 - row .sched) (s + getD bounds i 0 - getD backs i 0) (i + 1)
       unfolding shortfall
-      onward small =
+      one-passed small =
           let n : i + 1 ≡ suc i = add-one i in
           record {
             within = omega arith;
