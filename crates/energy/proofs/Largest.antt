@@ -11,7 +11,7 @@ use Rattle.common.specs.Lists.{every}
 use Rattle.common.proofs.Lists.{drop-next, every-both}
 use Rattle.common.proofs.Tests.{leb-same, leb-max}
 use Rattle.energy.specs.Period.{isReading, lowDeviation, highDeviation}
-use Rattle.energy.specs.Table.{largest, reach, reaches}
+use Rattle.energy.specs.Table.{largest, largestDeviation, largestDeviations}
 
 module _ (f : ℕ → ℕ) where
   pub entry-le : (rs : List ℕ) (i : ℕ) → i < length rs → f (getD rs i 0) ≤ largest (map f rs)
@@ -42,8 +42,8 @@ module _ (rs : List ℕ) where
   pub record SoFar (i least most : ℕ) : Type 0 where
     pub least-le : least ≤ 50000
     pub most-ge : 50000 ≤ most
-    pub low : reach lowDeviation rs ≡ max (50000 - least) (reach lowDeviation (drop i rs))
-    pub high : reach highDeviation rs ≡ max (most - 50000) (reach highDeviation (drop i rs))
+    pub low : largestDeviation lowDeviation rs ≡ max (50000 - least) (largestDeviation lowDeviation (drop i rs))
+    pub high : largestDeviation highDeviation rs ≡ max (most - 50000) (largestDeviation highDeviation (drop i rs))
 
   pub begin : SoFar 0 50000 50000
   begin = record { least-le = omega arith; most-ge = omega arith; low = omega arith; high = omega arith }
@@ -58,7 +58,7 @@ module _ (rs : List ℕ) where
           high = rw (high-max most (getD rs i 0)) (one-more highDeviation rs i (most - 50000) (s .high) h);
         }
 
-    pub done : length rs ≤ i → record { low = 50000 - least; high = most - 50000 } ≡ reaches rs
+    pub done : length rs ≤ i → record { low = 50000 - least; high = most - 50000 } ≡ largestDeviations rs
     done h = rw (all lowDeviation rs i (50000 - least) (s .low) h, all highDeviation rs i (most - 50000) (s .high) h)
 
 -- ---- what they say of the readings
@@ -75,7 +75,7 @@ within r =
     rw (low, high)
 
 -- every reading is good exactly where none lies more than 3,000 from 50,000
-pub every-within : (rs : List ℕ) → every isReading rs ≡ leb (reach lowDeviation rs) 3000 && leb (reach highDeviation rs) 3000
+pub every-within : (rs : List ℕ) → every isReading rs ≡ leb (largestDeviation lowDeviation rs) 3000 && leb (largestDeviation highDeviation rs) 3000
 every-within rs =
     every-both isReading (λ r. leb (lowDeviation r) 3000) (λ r. leb (highDeviation r) 3000) within rs
     ∙ rw (within-all lowDeviation 3000 rs, within-all highDeviation 3000 rs)

@@ -14,7 +14,7 @@ use Rattle.terms.specs.Terms.{Q}
 use Rattle.terms.specs.declared.Quantities.{Quantities}
 use Rattle.energy.specs.Curve.{curvesRule}
 use Rattle.energy.specs.Period.{goodReadings, lowDeviation, highDeviation, responses, boundsOf, BeforeReadings, fromReadings}
-use Rattle.energy.specs.Table.{largest, reach, reaches, Added, DirectionFits, tableSum, tableSums, Covered, responseSums, Reaching}
+use Rattle.energy.specs.Table.{largest, largestDeviation, largestDeviations, Added, DirectionFits, tableSum, tableSums, Covered, responseSums, WithinRange}
 use Rattle.energy.specs.declared.curve.Curves.{Curves}
 use Rattle.energy.specs.declared.table.Deviations.{Deviations}
 use Rattle.energy.specs.declared.table.Sums.{Sums}
@@ -24,7 +24,7 @@ use Rattle.energy.proofs.Tables.{zeros-at}
 
 -- where a table of zeros got f up to the largest deviation
 by-table : (deviation f : ℕ → ℕ) (n : ℕ) {most : ℕ} (table : List ℕ) → Added 0 (most + 1) f (replicate n 0) table →
-    (rs : List ℕ) → reach deviation rs ≤ most →
+    (rs : List ℕ) → largestDeviation deviation rs ≤ most →
     tableSum deviation table rs ≡ sum (map (λ (r : ℕ). f (deviation r)) rs)
 unfolding sum largest
 by-table deviation f n table a [] h = refl
@@ -44,19 +44,19 @@ zeros-fit q cs most few rules near =
       room = λ d. omega (arith, zeros-at 3001 d);
     }
 
-module _ {most : Deviations} {rs : List ℕ} (h : Reaching most rs) where
-  low-reach : reach lowDeviation rs ≤ most .low
-  low-reach = omega (arith, ap (λ (d : Deviations). d .low) (h .same))
+module _ {most : Deviations} {rs : List ℕ} (h : WithinRange most rs) where
+  low-le : largestDeviation lowDeviation rs ≤ most .low
+  low-le = omega (arith, ap (λ (d : Deviations). d .low) (h .same))
 
-  high-reach : reach highDeviation rs ≤ most .high
-  high-reach = omega (arith, ap (λ (d : Deviations). d .high) (h .same))
+  high-le : largestDeviation highDeviation rs ≤ most .high
+  high-le = omega (arith, ap (λ (d : Deviations). d .high) (h .same))
 
   module _ (lows highs : List ℕ) where
     pub covered : length lows ≡ 3001 → length highs ≡ 3001 → Covered lows highs rs
     covered l m =
         record {
-          low-there = omega (arith, low-reach, h .low-most);
-          high-there = omega (arith, high-reach, h .high-most);
+          low-there = omega (arith, low-le, h .low-most);
+          high-there = omega (arith, high-le, h .high-most);
           count-most = h .count-most;
         }
 
@@ -65,7 +65,7 @@ module _ {most : Deviations} {rs : List ℕ} (h : Reaching most rs) where
         Added 0 (most .high + 1) (responses high cs) (replicate n 0) highs →
         tableSums lows highs rs ≡ responseSums low high cs rs
     same-sums n low high cs a b =
-        rw (by-table lowDeviation (responses low cs) n lows a rs low-reach, by-table highDeviation (responses high cs) n highs b rs high-reach)
+        rw (by-table lowDeviation (responses low cs) n lows a rs low-le, by-table highDeviation (responses high cs) n highs b rs high-le)
 
 -- ---- the answer
 
@@ -82,7 +82,7 @@ module _ (low high : Quantities) (cs : Curves) (rs : List ℕ) where
   wrong-count h = rw (ne-eqb (length rs) 3600 h)
 
   -- the cause as the code tests it
-  pub by-tests : length rs ≡ 3600 → (most : Deviations) → most ≡ reaches rs →
+  pub by-tests : length rs ≡ 3600 → (most : Deviations) → most ≡ largestDeviations rs →
       fromReadings low high cs rs ≡ checked (cause 6 (ltb 3000 (most .low) || ltb 3000 (most .high)) ∷ []) (boundsOf low high cs rs)
   unfolding goodReadings
   by-tests h most same =
@@ -90,7 +90,7 @@ module _ (low high : Quantities) (cs : Curves) (rs : List ℕ) where
         same,
         eq-eqb (length rs) 3600 h,
         every-within rs,
-        not-both (leb (reach lowDeviation rs) 3000) (leb (reach highDeviation rs) 3000),
-        not-leb (reach lowDeviation rs) 3000,
-        not-leb (reach highDeviation rs) 3000,
+        not-both (leb (largestDeviation lowDeviation rs) 3000) (leb (largestDeviation highDeviation rs) 3000),
+        not-leb (largestDeviation lowDeviation rs) 3000,
+        not-leb (largestDeviation highDeviation rs) 3000,
       )

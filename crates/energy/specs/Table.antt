@@ -24,11 +24,11 @@ largest [] = 0
 largest (n ∷ ns) = max n (largest ns)
 
 -- a direction's largest deviation
-abbrev pub reach : (ℕ → ℕ) → List ℕ → ℕ
-reach deviation rs = largest (map deviation rs)
+abbrev pub largestDeviation : (ℕ → ℕ) → List ℕ → ℕ
+largestDeviation deviation rs = largest (map deviation rs)
 
-abbrev pub reaches : List ℕ → Deviations
-reaches rs = record { low = reach lowDeviation rs; high = reach highDeviation rs }
+abbrev pub largestDeviations : List ℕ → Deviations
+largestDeviations rs = record { low = largestDeviation lowDeviation rs; high = largestDeviation highDeviation rs }
 
 -- ---- a table of responses: entry d is that to a deviation of d
 
@@ -87,16 +87,16 @@ tableSums lows highs rs = record { low = tableSum lowDeviation lows rs; high = t
 
 -- `sum_table`: every deviation is in its table, and the sums stay a u64
 pub record Covered (lows highs rs : List ℕ) : Type 0 where
-  pub low-there : reach lowDeviation rs < length lows
-  pub high-there : reach highDeviation rs < length highs
+  pub low-there : largestDeviation lowDeviation rs < length lows
+  pub high-there : largestDeviation highDeviation rs < length highs
   pub count-most : length rs ≤ 2 ^ 32
 
 abbrev pub responseSums : Quantities → Quantities → Curves → List ℕ → Sums
 responseSums low high cs rs = record { low = responseSum lowDeviation low cs rs; high = responseSum highDeviation high cs rs }
 
 -- `sum_responses`: the largest deviations are those of the readings, and neither is above 3,000
-pub record Reaching (most : Deviations) (rs : List ℕ) : Type 0 where
-  pub same : most ≡ reaches rs
+pub record WithinRange (most : Deviations) (rs : List ℕ) : Type 0 where
+  pub same : most ≡ largestDeviations rs
   pub low-most : most .low ≤ 3000
   pub high-most : most .high ≤ 3000
   pub count-most : length rs ≤ 2 ^ 32

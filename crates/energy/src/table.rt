@@ -3,7 +3,7 @@ ghost use mathlib.Core.Path.{_≡_};
 ghost use Prim.Native.Nat.{ℕ, _+_, _-_, _*_, _^_, min, max};
 ghost use Rattle.energy.specs.Curve.{pointsOf, between, shareAt, responseTo};
 ghost use Rattle.energy.specs.Period.{highDeviation, responses, BeforeReadings};
-ghost use Rattle.energy.specs.Table.{reaches, Added, wholes, FillFits, SegmentFits, ServiceFits, DirectionFits, tableSums, Covered, responseSums, Reaching};
+ghost use Rattle.energy.specs.Table.{largestDeviations, Added, wholes, FillFits, SegmentFits, ServiceFits, DirectionFits, tableSums, Covered, responseSums, WithinRange};
 use crate::curve::Curve;
 use crate::curve::Curves;
 use crate::curve::Point;
@@ -31,7 +31,7 @@ fn larger(a: u16, b: u16) -> u16
 
 // By the least and the largest of 50,000 and the readings.
 pub(crate) fn largest_deviations(readings: &[u16]) -> Deviations
-    ensures { λ r. ⌜ r ≡ reaches (now (readings .entry)) ⌝ }
+    ensures { λ r. ⌜ r ≡ largestDeviations (now (readings .entry)) ⌝ }
 {
     let mut least: u16 = 50000;
     let mut most: u16 = 50000;
@@ -71,13 +71,6 @@ fn parts_of(response: u32) -> u64
     response as u64 * 4294967296 + 4294967295
 }
 
-fn nearer_end(end: usize, deviation: u16) -> usize
-    ensures { λ r. ⌜ r ≡ min end deviation ⌝ }
-{
-    let at = deviation as usize;
-    if end < at { end } else { at }
-}
-
 // Adds the responses between two points of a curve, at a rate for each per mille of share. The one division is that of the step:
 // the parts that it cuts off are too few, over 3,000 deviations, to change a response.
 fn fill_segment(rate: u32, p: Point, q: Point, end: usize, table: &mut [u32])
@@ -90,7 +83,7 @@ fn fill_segment(rate: u32, p: Point, q: Point, end: usize, table: &mut [u32])
         parts_of(rate * p.share as u32),
         rise * 4294967296 / width,
         p.deviation as usize,
-        nearer_end(end, q.deviation),
+        common::smaller(end as u64, q.deviation as u64) as usize,
         table,
     );
 }
@@ -174,7 +167,7 @@ pub(crate) fn sum_responses(
     most: Deviations,
     readings: &[u16],
 ) -> Sums
-    requires { ⌜ BeforeReadings low high curves × Reaching most (now readings) ⌝ }
+    requires { ⌜ BeforeReadings low high curves × WithinRange most (now readings) ⌝ }
     ensures { λ r. ⌜ r ≡ responseSums low high curves (now (readings .entry)) ⌝ }
 {
     let mut lows = [0u32; 3001];

@@ -13,6 +13,7 @@ use Rattle.signed.specs.Sign.{within}
 use Rattle.terms.specs.Terms.{Q, REV, ER, above1000}
 use Rattle.terms.specs.declared.Quantities.{Quantities}
 use Rattle.requirement.specs.Requirement.{sched, start, left}
+use Rattle.requirement.specs.declared.Next.{Next}
 use Rattle.requirement.proofs.Laws.{back-recovery, left-most, left-local, start-local}
 use Rattle.requirement.proofs.Need.{start-above}
 use Rattle.ledger_record.specs.Rule.{startAt, backAt, nextAt, standingOf}
@@ -20,12 +21,16 @@ use Rattle.ledger_record.specs.declared.Entries.{Entries}
 use Rattle.ledger_record.specs.declared.Record.{Record}
 use Rattle.ledger_record.specs.declared.Standing.{Standing}
 use Rattle.ledger_record.proofs.Kept.{opened}
-use Rattle.ledger.specs.Calls.{unusable, accepts, need, floor, ceiling, needBy, NeedFits, closedEntries}
+use Rattle.ledger.specs.Calls.{unusable, accepts, need, floor, ceiling, needOf, NeedFits, closedEntries}
 use Rattle.ledger.proofs.Usable.{rule-kept, before-eight}
+
+-- what is needed where the next period begins so
+abbrev needed : Next → ℤ
+needed n = needOf (n .start) (n .back)
 
 -- ---- needs
 
-need-is : (q : Quantities) (closed : ℕ) (x : Entries) → closed < 8 → needBy (nextAt q closed x) ≡ need q x (suc closed)
+need-is : (q : Quantities) (closed : ℕ) (x : Entries) → closed < 8 → needed (nextAt q closed x) ≡ need q x (suc closed)
 unfolding need startAt backAt
 need-is q closed x h = let p : min closed 8 ≡ closed = omega arith in rw p
 
@@ -53,15 +58,15 @@ module _ (r : Record) (s : Standing) (is : s ≡ standingOf r) where
     unfolding standingOf
     high-fits = rw is (need-fits (r .terms .high) (r .closed) (r .high) (opened r (rule-kept r e) .high-quantity))
 
-    pub floor-is : needBy (s .low) ≡ floor r
+    pub floor-is : needed (s .low) ≡ floor r
     unfolding standingOf
     floor-is = rw is (need-is (r .terms .low) (r .closed) (r .low) (before-eight r e))
 
-    pub ceiling-is : pos (r .size) -ℤ needBy (s .high) ≡ ceiling r
+    pub ceiling-is : pos (r .size) -ℤ needed (s .high) ≡ ceiling r
     unfolding standingOf
     ceiling-is = rw is (ap (λ z. pos (r .size) -ℤ z) (need-is (r .terms .high) (r .closed) (r .high) (before-eight r e)))
 
-    pub accepts-is : (p : ℤ) {b : Bool} → b ≡ within (needBy (s .low)) (pos (r .state) +ℤ p) (pos (r .size) -ℤ needBy (s .high)) → b ≡ accepts r p
+    pub accepts-is : (p : ℤ) {b : Bool} → b ≡ within (needed (s .low)) (pos (r .state) +ℤ p) (pos (r .size) -ℤ needed (s .high)) → b ≡ accepts r p
     unfolding accepts
     accepts-is p e = rw (← floor-is, ← ceiling-is) e
 

@@ -36,9 +36,13 @@ unusable r = eqb (r .closed) 8 || not (recordRule r)
 
 -- ---- checking a purchase p (negative is a sale), with period i next
 
--- the greater of 0 and start(i) + back(i)
+-- the greater of 0 and start + back
+abbrev pub needOf : ℤ → ℕ → ℤ
+needOf start back = greater (pos 0) (start +ℤ pos back)
+
+-- of period i
 unfoldable pub need : Quantities → Entries → ℕ → ℤ
-need q x i = greater (pos 0) (startAt q x i +ℤ pos (backAt q x i))
+need q x i = needOf (startAt q x i) (backAt q x i)
 
 -- floor: the low need; ceiling: size less the high need
 abbrev pub floor : Record → ℤ
@@ -179,10 +183,7 @@ closeAnswerOf c = closeAnswerWith (c .answer) (c .«record»)
 
 -- ---- what private functions ask and give
 
--- `need_of`: the greater of 0 and start + back of a period that begins so
-abbrev pub needBy : Next → ℤ
-needBy n = greater (pos 0) (n .start +ℤ pos (n .back))
-
+-- `need_of`: start and back of a period are such that their sum is a u64
 pub record NeedFits (n : Next) : Type 0 where
   pub start-most : above (n .start) ≤ 2 ^ 44
   pub back-most : n .back ≤ 2 ^ 44

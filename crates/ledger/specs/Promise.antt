@@ -20,7 +20,7 @@ use lib.Signed.{_≤ℤ_, _<ℤ_}
 use Rattle.common.specs.Answer.{refused, given, isGiven, orBlank}
 use Rattle.common.specs.Lists.{sum}
 use Rattle.common.specs.Periods.{periodsTo, ofPeriod}
-use Rattle.signed.specs.Sign.{above, below, greater}
+use Rattle.signed.specs.Sign.{above, below}
 use Rattle.terms.specs.Terms.{REV, ER}
 use Rattle.terms.specs.declared.Terms.{Terms}
 use Rattle.requirement.specs.Requirement.{start, sched, back}
@@ -30,7 +30,7 @@ use Rattle.ledger_record.specs.Rule.{recordRule}
 use Rattle.ledger_record.specs.declared.Entries.{Entries}
 use Rattle.ledger_record.specs.declared.Totals.{Totals}
 use Rattle.ledger_record.specs.declared.Record.{Record}
-use Rattle.ledger.specs.Calls.{Closing, newState, checking, proposing, closing}
+use Rattle.ledger.specs.Calls.{Closing, needOf, newState, checking, proposing, closing}
 
 -- ---- a list of calls
 
@@ -97,7 +97,7 @@ backAfter d h = back (d .ER) (ofPeriod (bounds d h)) (suc (length h))
 
 -- the greater of 0 and start(n+1) + back(n+1)
 unfoldable pub needAfter : Direction → History → ℤ
-needAfter d h = greater (pos 0) (startAfter d h +ℤ pos (backAfter d h))
+needAfter d h = needOf (startAfter d h) (backAfter d h)
 
 abbrev pub extend : History → Closing → History
 extend h c = h ++ (c ∷ [])

@@ -7,7 +7,7 @@ ghost use lib.IntN.{pos, _+ℤ_, _-ℤ_};
 ghost use Rattle.common.specs.Answer.{numberOf, orBlank};
 ghost use Rattle.signed.specs.Sign.{within};
 ghost use Rattle.ledger_record.specs.Rule.{nextAt};
-ghost use Rattle.ledger.specs.Calls.{NeedFits, needBy, toward, moved, settling, closedEntries, TotalsFit, closedTotals, closedRecord, CanClose, checking, checkAnswerOf, proposing, proposeAnswerOf, closingWith, closing, closeAnswerWith, closeAnswerOf};
+ghost use Rattle.ledger.specs.Calls.{needOf, NeedFits, toward, moved, settling, closedEntries, TotalsFit, closedTotals, closedRecord, CanClose, checking, checkAnswerOf, proposing, proposeAnswerOf, closingWith, closing, closeAnswerWith, closeAnswerOf};
 use energy::period::PeriodEnergy;
 use ledger_record::Entries;
 use ledger_record::Record;
@@ -57,7 +57,7 @@ fn is_unusable(closed: u32, holds: bool) -> bool
 // The greater of 0 and start + back of the period that begins so.
 fn need_of(next: Next) -> u64
     requires { ⌜ NeedFits next ⌝ }
-    ensures { λ r. ⌜ (pos r ≡ needBy next) × (r ≤ 2 ^ 45) ⌝ }
+    ensures { λ r. ⌜ (pos r ≡ needOf (next .start) (next .back)) × (r ≤ 2 ^ 45) ⌝ }
 {
     let start = next.start;
     let up = signed::above_zero(start) + next.back;
@@ -81,7 +81,7 @@ fn lies_between(low: u64, state: u32, size: u32, high: u64, p: i64) -> bool
 // Whether a purchase is accepted, by what the next period begins with.
 fn is_accepted(state: u32, size: u32, low: Next, high: Next, purchase: i64) -> bool
     requires { ⌜ NeedFits low × NeedFits high ⌝ }
-    ensures { λ r. ⌜ r ≡ within (needBy low) (pos state +ℤ purchase) (pos size -ℤ needBy high) ⌝ }
+    ensures { λ r. ⌜ r ≡ within (needOf (low .start) (low .back)) (pos state +ℤ purchase) (pos size -ℤ needOf (high .start) (high .back)) ⌝ }
 {
     lies_between(need_of(low), state, size, need_of(high), purchase)
 }

@@ -41,13 +41,16 @@ div-fill c = search needs
 cast-fill : tie.Need-cast-fill
 cast-fill c = search needs
 
-nearer-end-requires : tie.Need-nearer-end-requires
-nearer-end-requires c κs = search needs
+cast-smaller : tie.Need-cast-smaller
+cast-smaller c = search needs
+
+smaller-requires : tie.Need-smaller-requires
+smaller-requires c κs = search needs
 
 fill-requires : tie.Need-fill-requires
 fill-requires c κs =
-    let a = c .before .before .before in
-    rw (a .parts-of .ensures, c .before .nearer-end .ensures) (fill-fits (start (a .before .before) .pre))
+    let a = c .before .before .before .before in
+    rw (a .parts-of .ensures, c .before .smaller .ensures) (fill-fits (start (a .before .before) .pre))
 
 same-length : tie.Need-same-length
 same-length c = search needs
@@ -56,8 +59,8 @@ returns : tie.Need-returns
 returns c =
     let g = c .before .before in
     let n = g .before .before in
-    let a = n .before .before in
-    filled (start (a .before .before) .pre) (rw (a .parts-of .ensures, n .nearer-end .ensures) at (g .fill .ensures))
+    let a = n .before .before .before in
+    filled (start (a .before .before) .pre) (rw (a .parts-of .ensures, n .smaller .ensures) at (g .fill .ensures))
 
 pub fill-segment-spec : {M : Type 1} → statement M
 fill-segment-spec =
@@ -74,7 +77,8 @@ fill-segment-spec =
     mul-fill
     div-fill
     cast-fill
-    nearer-end-requires
+    cast-smaller
+    smaller-requires
     fill-requires
     same-length
     returns)
