@@ -1,11 +1,14 @@
 // Period energy: the bounds of both directions, from a period's readings.
 ghost use mathlib.Core.Path.{_≡_};
-ghost use Prim.Native.Nat.{_≤_};
+ghost use Prim.Native.Nat.{_*_, _≤_};
+ghost use mathlib.Core.Bool.{true};
 ghost use Rattle.common.specs.Answer.{numberOf};
 ghost use Rattle.common.specs.Fraction.{roundedUp};
 ghost use Rattle.energy.specs.Period.{BeforeReadings, fromReadings, periodEnergy, answerOf};
+ghost use Rattle.energy.specs.Rate.{isPeriodCount, divisor};
 use crate::curve::Curves;
 use crate::curve::curves_hold;
+use crate::rate::is_period_count;
 use crate::table::largest_deviations;
 use crate::table::sum_responses;
 use terms::Quantities;
@@ -17,16 +20,17 @@ pub enum PeriodEnergy {
     Quantity,
     // A curve breaks its rule.
     Curve,
-    // The count is not 3,600, or a reading is bad.
+    // The count is that of neither rate, or a reading is bad.
     Readings,
 }
 
-// The energy of a period, from the sum of its responses in kW.
-fn period_kwh(sum: u64) -> u32
-    requires { ⌜ sum ≤ 3600000000 ⌝ }
-    ensures { λ r. ⌜ r ≡ roundedUp sum 7200 ⌝ }
+// The energy of a period, from the sum of its responses, each at most 1,000,000 kW, and the count of its readings.
+fn period_kwh(sum: u64, count: usize) -> u32
+    requires { ⌜ isPeriodCount count ≡ true × sum ≤ 1000000 * count ⌝ }
+    ensures { λ r. ⌜ r ≡ roundedUp sum (divisor count) ⌝ }
 {
-    ((sum + 7199) / 7200) as u32
+    let divisor = 2 * count as u64;
+    ((sum + (divisor - 1)) / divisor) as u32
 }
 
 // Refusal 6 or both bounds, where quantities and curves are good.
@@ -39,7 +43,8 @@ fn from_readings(
     requires { ⌜ BeforeReadings low high curves ⌝ }
     ensures { λ r. ⌜ answerOf r ≡ fromReadings low high curves (now (readings .entry)) ⌝ }
 {
-    if readings.len() != 3600 {
+    let count = readings.len();
+    if !is_period_count(count) {
         return PeriodEnergy::Readings;
     }
     // a reading is 47,000 to 53,000: within 3,000 of 50,000
@@ -49,8 +54,8 @@ fn from_readings(
     }
     let sums = sum_responses(low, high, curves, most, readings);
     PeriodEnergy::Bounds {
-        low: period_kwh(sums.low),
-        high: period_kwh(sums.high),
+        low: period_kwh(sums.low, count),
+        high: period_kwh(sums.high, count),
     }
 }
 

@@ -3,12 +3,13 @@
 -- In words: open a record with terms, curves, size and first state of which no cause of opening holds. Make any calls on it,
 -- one after the other, each on the record that the last one returned or left. Then read off the list which closings were carried
 -- out: their readings give the bounds, the bounds give every start, and their purchases, deliveries and takings give the state.
+-- Each closing's readings are at two a second or at twenty, and one list may mix both (paper 02, No. 1).
 -- The unit passes both directions at every start: after the first k closings carried out, for every k from none to all, at
 -- start(k+1). Every call gives 10 exactly when eight closings were carried out. Before that the proposal is accepted, lies within
 -- the recovery volumes and is nearest to 0, and a purchase is refused exactly when it goes past empty or full itself or some
--- outcome of the period fails a direction at the start after it. A closing is carried out exactly when none of its causes holds,
--- read off the list. A refused call leaves the record as it was. The record keeps the record rule, and holds just what the list
--- gives. Assumes nothing.
+-- outcome of the period, with readings of either rate, fails a direction at the start after it. A closing is carried out exactly
+-- when none of its causes holds, read off the list. A refused call leaves the record as it was. The record keeps the record rule,
+-- and holds just what the list gives. Assumes nothing.
 use mathlib.Core.Path.{_≡_}
 use mathlib.Core.Bool.{Bool, true, cond}
 use mathlib.Core.Logic.{_↔_, _≢_, _⊎_}
@@ -81,7 +82,7 @@ pub record Battery : Type 0 where
   pub first : ℕ
   pub low : Direction
   pub high : Direction
-  -- the readings that 6 lets through
+  -- the readings that 6 lets through, of either rate
   pub good : List ℕ → Bool
 
 -- the readings give the bounds
@@ -116,7 +117,7 @@ module _ (b : Battery) where
 
   -- ---- an outcome of period n+1
 
-  -- readings that 6 lets through, with delivered from 0 to their low bound and taken from 0 to their high one
+  -- readings that 6 lets through, of either rate, with delivered from 0 to their low bound and taken from 0 to their high one
   pub record Possible (readings : List ℕ) (delivered taken : ℤ) : Type 0 where
     pub good : b .good readings ≡ true
     pub delivered-least : pos 0 ≤ℤ delivered

@@ -34,7 +34,7 @@ pub enum CloseAnswer {
     Closed,
     Unusable,
     Purchase,
-    // The count is not 3,600, or a reading is bad.
+    // The count is that of neither rate, or a reading is bad.
     Readings,
     // Delivered or taken is below 0 or above its bound, or the new state is outside 0..size.
     Energy,
