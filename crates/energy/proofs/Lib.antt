@@ -6,6 +6,8 @@ pub mod Largest
 pub mod Laws
 pub mod Parts
 pub mod Points
+pub mod Rates
+pub mod Repeated
 pub mod Responses
 pub mod Rounding
 pub mod Segments

@@ -1,10 +1,10 @@
 -- A period's sums, by table and by response, and the answer that they give. Assumes nothing.
 use mathlib.Core.Path.{_≡_, refl, ap}
-use mathlib.Core.Bool.{true, _||_}
+use mathlib.Core.Bool.{true, false, _||_}
 use mathlib.Core.List.{List, [], _∷_, map}
-use Prim.Native.Nat.{ℕ, _+_, _≤_}
+use Prim.Native.Nat.{ℕ, _+_, _*_, _≤_}
+use native.Mathlib.Nat.{mul-le-mul-right}
 use native.Mathlib.Omega.{arith}
-use borrow.Author.Tests.{eq-eqb, ne-eqb}
 use lib.Dec.{leb, ltb}
 use lib.ListN.{length, getD, replicate}
 use Rattle.common.specs.Answer.{refused, cause, checked}
@@ -14,6 +14,7 @@ use Rattle.terms.specs.Terms.{Q}
 use Rattle.terms.specs.declared.Quantities.{Quantities}
 use Rattle.energy.specs.Curve.{curvesRule}
 use Rattle.energy.specs.Period.{goodReadings, lowDeviation, highDeviation, responses, boundsOf, BeforeReadings, fromReadings}
+use Rattle.energy.specs.Rate.{isPeriodCount}
 use Rattle.energy.specs.Table.{largest, largestDeviation, largestDeviations, Added, DirectionFits, tableSum, tableSums, Covered, responseSums, WithinRange}
 use Rattle.energy.specs.declared.curve.Curves.{Curves}
 use Rattle.energy.specs.declared.table.Deviations.{Deviations}
@@ -71,24 +72,28 @@ module _ {most : Deviations} {rs : List ℕ} (h : WithinRange most rs) where
 
 module _ (low high : Quantities) (cs : Curves) (rs : List ℕ) where
   -- what both directions of at most 1,000 MW respond
-  pub sums-most : BeforeReadings low high cs → length rs ≡ 3600 → (sums : Sums) → sums ≡ responseSums low high cs rs →
-      (sums .low ≤ 3600000000) × (sums .high ≤ 3600000000)
-  sums-most b long sums same =
-      rw same
-      (omega (arith, b .low-most, b .high-most, response-sum-le low cs (b .curves) lowDeviation rs long, response-sum-le high cs (b .curves) highDeviation rs long))
+  pub sums-most : BeforeReadings low high cs → (sums : Sums) → sums ≡ responseSums low high cs rs →
+      (sums .low ≤ 1000000 * length rs) × (sums .high ≤ 1000000 * length rs)
+  sums-most b sums same =
+      let low-most : 1000 * Q low ≤ 1000000 = omega (arith, b .low-most) in
+      let high-most : 1000 * Q high ≤ 1000000 = omega (arith, b .high-most) in
+      rw same (
+        omega (arith, response-sum-le low cs (b .curves) lowDeviation rs, mul-le-mul-right (length rs) low-most),
+        omega (arith, response-sum-le high cs (b .curves) highDeviation rs, mul-le-mul-right (length rs) high-most),
+      )
 
-  pub wrong-count : (length rs ≡ 3600 → ⊥) → refused 6 ≡ fromReadings low high cs rs
+  pub wrong-count : isPeriodCount (length rs) ≡ false → refused 6 ≡ fromReadings low high cs rs
   unfolding goodReadings
-  wrong-count h = rw (ne-eqb (length rs) 3600 h)
+  wrong-count h = rw h
 
   -- the cause as the code tests it
-  pub by-tests : length rs ≡ 3600 → (most : Deviations) → most ≡ largestDeviations rs →
+  pub by-tests : isPeriodCount (length rs) ≡ true → (most : Deviations) → most ≡ largestDeviations rs →
       fromReadings low high cs rs ≡ checked (cause 6 (ltb 3000 (most .low) || ltb 3000 (most .high)) ∷ []) (boundsOf low high cs rs)
   unfolding goodReadings
   by-tests h most same =
       rw (
         same,
-        eq-eqb (length rs) 3600 h,
+        h,
         every-within rs,
         not-both (leb (largestDeviation lowDeviation rs) 3000) (leb (largestDeviation highDeviation rs) 3000),
         not-leb (largestDeviation lowDeviation rs) 3000,

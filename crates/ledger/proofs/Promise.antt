@@ -16,6 +16,7 @@ use Rattle.common.specs.Periods.{periodsTo}
 use Rattle.common.proofs.Answers.{given-is, given-clear, given-value, orBlank-is, first-given, holdsOf, clear-of}
 use Rattle.terms.specs.declared.Terms.{Terms}
 use Rattle.energy.specs.Period.{goodReadings, lowDeviation, highDeviation}
+use Rattle.energy.specs.Rate.{two, periodCount}
 use Rattle.energy.specs.declared.curve.Curves.{Curves}
 use Rattle.energy.proofs.Laws.{still-good, still-bound}
 use Rattle.ledger_record.specs.Opening.{openingCauses, firstRecord, opening}
@@ -37,13 +38,13 @@ module _ (t : Terms) (curves : Curves) (size first : ℕ) (no-number : clear (op
   opened : Opened b
   opened = record { fits = opens .size-least; low = opens .first-least; high = opens .first-most }
 
-  -- 3,600 readings of 50,000
+  -- a period's readings of 50,000, at one of the rates
   still : Still b
   still = record {
-    readings = replicate 3600 50000;
-    good = still-good;
-    low = still-bound (t .low) curves (opens .curves-hold) lowDeviation refl 3600;
-    high = still-bound (t .high) curves (opens .curves-hold) highDeviation refl 3600;
+    readings = replicate (periodCount two) 50000;
+    good = still-good two;
+    low = still-bound (t .low) curves (opens .curves-hold) lowDeviation refl (periodCount two);
+    high = still-bound (t .high) curves (opens .curves-hold) highDeviation refl (periodCount two);
   }
 
   record Agrees (r : Record) (h : History) : Type 0 where
