@@ -16,11 +16,11 @@ use Rattle.energy.proofs.Rounding.{up-zero, up-one}
 use Rattle.energy.proofs.Segments.{first}
 use Rattle.energy.proofs.Tables.{none-added, same-added, then-added}
 
-module _ (c : Curve) (rate end : ℕ) (before : List ℕ) where
+module _ (c : Curve) (factor end : ℕ) (before : List ℕ) where
   abbrev added : ℕ → ℕ
-  added d = responseTo rate (shareAt (pointsOf c) d)
+  added d = responseTo factor (shareAt (pointsOf c) d)
 
-  pub none : rate ≡ 0 → Added 0 end added before before
+  pub none : factor ≡ 0 → Added 0 end added before before
   none h = none-added end (λ d l m. rw (h, zero-mul (shareAt (pointsOf c) d .numerator)) (up-zero (shareAt (pointsOf c) d .denominator)))
 
   pub record Filled (table : List ℕ) (last : Point) (i : ℕ) : Type 0 where
@@ -33,19 +33,19 @@ module _ (c : Curve) (rate end : ℕ) (before : List ℕ) where
       record {
         long = refl;
         reached = reach-first c rule there;
-        so-far = none-added (min end (at c 0 .deviation)) (λ d l m. rw (below-first c rule there d (omega arith)) (up-one (rate * 0) ∙ mul-zero rate));
+        so-far = none-added (min end (at c 0 .deviation)) (λ d l m. rw (below-first c rule there d (omega arith)) (up-one (factor * 0) ∙ mul-zero factor));
       }
 
   module _ {table : List ℕ} {last : Point} {i : ℕ} (f : Filled table last i) where
     -- ---- a turn
 
     module _ (h : i < c .count) (there : c .count ≤ length (c .points)) where
-      pub segment-fits : ServiceFits rate c end before → SegmentFits rate last (at c i) end table
+      pub segment-fits : ServiceFits factor c end before → SegmentFits factor last (at c i) end table
       segment-fits s =
           let r = next-rises c (f .reached) h there in
           let q = next-range c (f .reached) h there in
           record {
-            rate-most = s .rate-most;
+            factor-most = s .factor-most;
             farther = r .farther;
             no-less = r .no-less;
             deviation-most = q .deviation-le;
@@ -55,7 +55,7 @@ module _ (c : Curve) (rate end : ℕ) (before : List ℕ) where
           }
 
       pub turn : {after : List ℕ} → length after ≡ length table →
-          Added (last .deviation) (min end (at c i .deviation)) (λ (d : ℕ). responseTo rate (between last (at c i) d)) table after →
+          Added (last .deviation) (min end (at c i .deviation)) (λ (d : ℕ). responseTo factor (between last (at c i) d)) table after →
           Filled after (at c i) (i + 1)
       turn long a =
           let r = next-rises c (f .reached) h there in
@@ -69,20 +69,20 @@ module _ (c : Curve) (rate end : ℕ) (before : List ℕ) where
 
     -- ---- past the last point
 
-    pub flat-le : rate * last .share ≤ 1000 * rate
-    flat-le = omega (arith, mul-le-mul (le-refl rate) (last-range c (f .reached) .share-le))
+    pub flat-le : factor * last .share ≤ 1000 * factor
+    flat-le = omega (arith, mul-le-mul (le-refl factor) (last-range c (f .reached) .share-le))
 
     abbrev flat-parts : ℕ
-    flat-parts = first (rate * last .share)
+    flat-parts = first (factor * last .share)
 
-    flat-at : (d : ℕ) → wholes flat-parts 0 (d - last .deviation) ≡ rate * last .share
-    flat-at d = start-value (2 ^ 32) (rate * last .share) (d - last .deviation) (omega arith)
+    flat-at : (d : ℕ) → wholes flat-parts 0 (d - last .deviation) ≡ factor * last .share
+    flat-at d = start-value (2 ^ 32) (factor * last .share) (d - last .deviation) (omega arith)
 
-    pub fill-fits : ServiceFits rate c end before → FillFits flat-parts 0 (last .deviation) end table
+    pub fill-fits : ServiceFits factor c end before → FillFits flat-parts 0 (last .deviation) end table
     fill-fits s =
         record {
           there = omega (arith, f .long, s .there);
-          parts-fit = omega (arith, flat-le, s .rate-most);
+          parts-fit = omega (arith, flat-le, s .factor-most);
           room = λ d l m. omega (arith, flat-at d, flat-le, f .so-far .above d (omega arith), s .room d);
         }
 
@@ -90,4 +90,4 @@ module _ (c : Curve) (rate end : ℕ) (before : List ℕ) where
         Added 0 end added before after
     done h a =
         then-added end (last .deviation) (f .so-far)
-        (same-added a _ (λ d l m. rw (flat-at d, flat c (f .reached) h d l) (sym (up-one (rate * last .share))))) (omega arith) (omega arith)
+        (same-added a _ (λ d l m. rw (flat-at d, flat c (f .reached) h d l) (sym (up-one (factor * last .share))))) (omega arith) (omega arith)

@@ -111,14 +111,14 @@ at-point mw (p ∷ ps) i e h =
 
 -- ---- responses
 
--- at a rate for each per mille, at most 1,000 times the rate
-response-to-le : (rate : ℕ) {f : Fraction} → Share f → responseTo rate f ≤ 1000 * rate
-response-to-le rate {f} s =
-    let p : rate * f .numerator ≤ 1000 * rate * f .denominator = rw (mul-assoc, ← mul-left-comm rate 1000 (f .denominator)) (mul-le-mul-left rate (s .at-most)) in
-    up-le (rate * f .numerator) (f .denominator) (1000 * rate) (s .positive) p
+-- a factor times a share is at most 1,000 times the factor
+response-to-le : (factor : ℕ) {f : Fraction} → Share f → responseTo factor f ≤ 1000 * factor
+response-to-le factor {f} s =
+    let p : factor * f .numerator ≤ 1000 * factor * f .denominator = rw (mul-assoc, ← mul-left-comm factor 1000 (f .denominator)) (mul-le-mul-left factor (s .at-most)) in
+    up-le (factor * f .numerator) (f .denominator) (1000 * factor) (s .positive) p
 
-pub between-le : (rate : ℕ) (p q : Point) (d : ℕ) → Rises p q → InRange q → p .deviation ≤ d → d < q .deviation → responseTo rate (between p q d) ≤ 1000 * rate
-between-le rate p q d r i h l = response-to-le rate (share-between p q d r i h l)
+pub between-le : (factor : ℕ) (p q : Point) (d : ℕ) → Rises p q → InRange q → p .deviation ≤ d → d < q .deviation → responseTo factor (between p q d) ≤ 1000 * factor
+between-le factor p q d r i h l = response-to-le factor (share-between p q d r i h l)
 
 module _ (mw : ℕ) (c : Curve) (rule : curveRule c ≡ true) where
   pub response-le : (d : ℕ) → response mw c d ≤ 1000 * mw

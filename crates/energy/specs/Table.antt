@@ -52,22 +52,22 @@ pub record FillFits (first step from end : ℕ) (table : List ℕ) : Type 0 wher
   pub parts-fit : first + step * (end - from) < 2 ^ 64
   pub room : (d : ℕ) → from ≤ d → d < end → getD table d 0 + wholes first step (d - from) < 2 ^ 32
 
--- `fill_segment`: a rate of which 1,000 per mille are a u32, two points as the rule has them, and room from the first on
-pub record SegmentFits (rate : ℕ) (p q : Point) (end : ℕ) (table : List ℕ) : Type 0 where
-  pub rate-most : rate ≤ 1000000
+-- `fill_segment`: a factor of which 1,000 per mille are a u32, two points as the rule has them, and room from the first on
+pub record SegmentFits (factor : ℕ) (p q : Point) (end : ℕ) (table : List ℕ) : Type 0 where
+  pub factor-most : factor ≤ 1000000
   pub farther : p .deviation < q .deviation
   pub no-less : p .share ≤ q .share
   pub deviation-most : q .deviation ≤ 3000
   pub share-most : q .share ≤ 1000
   pub there : end ≤ length table
-  pub room : (d : ℕ) → p .deviation ≤ d → getD table d 0 + 1000 * rate < 2 ^ 32
+  pub room : (d : ℕ) → p .deviation ≤ d → getD table d 0 + 1000 * factor < 2 ^ 32
 
--- `fill_service`: a curve that keeps its rule, and room for 1,000 per mille of such a rate
-pub record ServiceFits (rate : ℕ) (c : Curve) (end : ℕ) (table : List ℕ) : Type 0 where
-  pub rate-most : rate ≤ 1000000
+-- `fill_service`: a curve that keeps its rule, and room for 1,000 per mille of such a factor
+pub record ServiceFits (factor : ℕ) (c : Curve) (end : ℕ) (table : List ℕ) : Type 0 where
+  pub factor-most : factor ≤ 1000000
   pub rule : curveRule c ≡ true
   pub there : end ≤ length table
-  pub room : Room (1000 * rate) table
+  pub room : Room (1000 * factor) table
 
 -- `fill_direction`: at most 1,000 MW, curves that keep their rule, and room for all of it
 pub record DirectionFits (q : Quantities) (cs : Curves) (most : ℕ) (table : List ℕ) : Type 0 where

@@ -71,16 +71,16 @@ fn parts_of(response: u32) -> u64
     response as u64 * 4294967296 + 4294967295
 }
 
-// Adds the responses between two points of a curve, at a rate for each per mille of share. The one division is that of the step:
+// Adds the responses between two points of a curve, a factor times the share. The one division is that of the step:
 // the parts that it cuts off are too few, over 3,000 deviations, to change a response.
-fn fill_segment(rate: u32, p: Point, q: Point, end: usize, table: &mut [u32])
-    requires { ⌜ SegmentFits rate p q end (now table) ⌝ }
-    ensures { λ r. ⌜ Added (p .deviation) (min end (q .deviation)) (λ (d : ℕ). responseTo rate (between p q d)) (now (table .entry)) (now (table .exit)) ⌝ }
+fn fill_segment(factor: u32, p: Point, q: Point, end: usize, table: &mut [u32])
+    requires { ⌜ SegmentFits factor p q end (now table) ⌝ }
+    ensures { λ r. ⌜ Added (p .deviation) (min end (q .deviation)) (λ (d : ℕ). responseTo factor (between p q d)) (now (table .entry)) (now (table .exit)) ⌝ }
 {
     let width = (q.deviation - p.deviation) as u64;
-    let rise = rate as u64 * (q.share - p.share) as u64;
+    let rise = factor as u64 * (q.share - p.share) as u64;
     fill(
-        parts_of(rate * p.share as u32),
+        parts_of(factor * p.share as u32),
         rise * 4294967296 / width,
         p.deviation as usize,
         common::smaller(end as u64, q.deviation as u64) as usize,
@@ -89,11 +89,11 @@ fn fill_segment(rate: u32, p: Point, q: Point, end: usize, table: &mut [u32])
 }
 
 // Adds the responses of a service to each deviation below an end.
-fn fill_service(rate: u32, curve: Curve, end: usize, table: &mut [u32])
-    requires { ⌜ ServiceFits rate curve end (now table) ⌝ }
-    ensures { λ r. ⌜ Added 0 end (λ (d : ℕ). responseTo rate (shareAt (pointsOf curve) d)) (now (table .entry)) (now (table .exit)) ⌝ }
+fn fill_service(factor: u32, curve: Curve, end: usize, table: &mut [u32])
+    requires { ⌜ ServiceFits factor curve end (now table) ⌝ }
+    ensures { λ r. ⌜ Added 0 end (λ (d : ℕ). responseTo factor (shareAt (pointsOf curve) d)) (now (table .entry)) (now (table .exit)) ⌝ }
 {
-    if rate == 0 {
+    if factor == 0 {
         return;
     }
     let count = curve.count as usize;
@@ -101,12 +101,12 @@ fn fill_service(rate: u32, curve: Curve, end: usize, table: &mut [u32])
     let mut i: usize = 1;
     while i < count {
         let next = curve.points[i];
-        fill_segment(rate, last, next, end, table);
+        fill_segment(factor, last, next, end, table);
         last = next;
         i += 1;
     }
     fill(
-        parts_of(rate * last.share as u32),
+        parts_of(factor * last.share as u32),
         0,
         last.deviation as usize,
         end,

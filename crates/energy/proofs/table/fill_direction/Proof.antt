@@ -50,7 +50,7 @@ fill-service-requires : tie.Need-fill-service-requires
 fill-service-requires c κs =
     let s = c .before .before in
     record {
-      rate-most = omega (arith, s .pre .quantity-most);
+      factor-most = omega (arith, s .pre .quantity-most);
       rule = rules (s .args .curves) (s .pre .rules) .dc;
       there = omega (arith, s .pre .there);
       room = λ d. omega (arith, s .pre .room d);
@@ -61,7 +61,7 @@ fill-service-requires-2 c κs =
     let g = c .before .before .before in
     let s = start g in
     record {
-      rate-most = omega (arith, s .pre .quantity-most);
+      factor-most = omega (arith, s .pre .quantity-most);
       rule = rules (s .args .curves) (s .pre .rules) .dm;
       there = omega (arith, s .pre .there, long g);
       room = λ d. omega (arith, room g d);
@@ -72,7 +72,7 @@ fill-service-requires-3 c κs =
     let g = c .before .before .before in
     let s = start (first g) in
     record {
-      rate-most = omega (arith, s .pre .quantity-most);
+      factor-most = omega (arith, s .pre .quantity-most);
       rule = rules (s .args .curves) (s .pre .rules) .dr;
       there = omega (arith, s .pre .there, long2 g);
       room = room2 g;

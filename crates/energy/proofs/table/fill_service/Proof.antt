@@ -10,10 +10,10 @@ use Rattle.energy.proofs.table.fill_service.Statement.{statement}
 use Rattle.energy.proofs.table.fill_service.Tie as tie
 
 abbrev Inv-loop : tie.InvT-loop
-Inv-loop rate end table₀ curve count last₀ i₀ table last i = Filled curve rate end table₀ table last i
+Inv-loop factor end table₀ curve count last₀ i₀ table last i = Filled curve factor end table₀ table last i
 
 abbrev μ-loop : tie.MeasureT-loop
-μ-loop rate end table₀ curve count last₀ i₀ table last i = count - i
+μ-loop factor end table₀ curve count last₀ i₀ table last i = count - i
 
 abbrev start : tie.At-loop Inv-loop μ-loop → tie.Start Inv-loop μ-loop
 start l = l .before .before .before .before
@@ -73,7 +73,7 @@ cast-parts-of : tie.Need-cast-parts-of Inv-loop μ-loop
 cast-parts-of c = search needs
 
 mul-parts-of : tie.Need-mul-parts-of Inv-loop μ-loop
-mul-parts-of c = let l = c .before .before in omega (arith, flat-le _ _ _ _ (l .loop .inv), start l .pre .rate-most)
+mul-parts-of c = let l = c .before .before in omega (arith, flat-le _ _ _ _ (l .loop .inv), start l .pre .factor-most)
 
 parts-of-requires : tie.Need-parts-of-requires Inv-loop μ-loop
 parts-of-requires c κs = search needs
