@@ -13,14 +13,14 @@ pub const BLOCK_AT_TWO: usize = 8 * PERIOD_AT_TWO;
 pub const BLOCK_AT_TWENTY: usize = 8 * PERIOD_AT_TWENTY;
 
 // Whether a period has so many readings.
-pub fn is_period_count(count: usize) -> bool
+pub(crate) fn is_period_count(count: usize) -> bool
     ensures { λ r. ⌜ r ≡ isPeriodCount count ⌝ }
 {
     (count == PERIOD_AT_TWO) | (count == PERIOD_AT_TWENTY)
 }
 
 // Whether a block has so many.
-pub fn is_block_count(count: usize) -> bool
+pub(crate) fn is_block_count(count: usize) -> bool
     ensures { λ r. ⌜ r ≡ isBlockCount count ⌝ }
 {
     (count == BLOCK_AT_TWO) | (count == BLOCK_AT_TWENTY)
