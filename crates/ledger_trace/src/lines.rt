@@ -1,4 +1,5 @@
 // What a line must be: a word, and the numbers that the word takes.
+use crate::readings::MOST_READINGS;
 use crate::text::Numbers;
 use crate::text::are_within;
 use crate::text::numbers_from;
@@ -82,10 +83,10 @@ fn is_curve(numbers: Numbers) -> bool {
 
 // read V N, with so many readings held
 fn is_read(numbers: Numbers, held: usize) -> bool {
-    if 28_801 < held {
+    if MOST_READINGS < held {
         return false;
     }
-    let room = (28_801 - held) as i64;
+    let room = (MOST_READINGS - held) as i64;
     (numbers.count == 2) & are_within(numbers, 0, 1, 65_535) & are_within(numbers, 1, 2, room)
 }
 

@@ -15,6 +15,7 @@ use energy::curve::Curves;
 use ledger_record::Record;
 use libc::STDIN_FILENO;
 use lines::line_of;
+use readings::MOST_READINGS;
 use show::write_record;
 use state::State;
 use text::Numbers;
@@ -113,7 +114,7 @@ fn main() {
         show::write_line(b"malformed", 0);
         return;
     }
-    let mut space = [0u16; 28_801];
+    let mut space = [0u16; MOST_READINGS];
     let number = take_lines(&input[..n], &mut space);
     if 0 < number {
         show::write_line(b"malformed", number);

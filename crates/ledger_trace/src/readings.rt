@@ -10,7 +10,11 @@ use crate::text::value_u32;
 use energy::block::BlockCheck;
 use energy::curve::Curves;
 use energy::period::PeriodEnergy;
+use energy::rate::BLOCK_AT_TWENTY;
 use ledger_record::Record;
+
+// One more than the longest block has.
+pub const MOST_READINGS: usize = BLOCK_AT_TWENTY + 1;
 
 fn fill(readings: &mut [u16], from: usize, end: usize, reading: u16) {
     let mut i = from;
@@ -25,8 +29,8 @@ fn fill(readings: &mut [u16], from: usize, end: usize, reading: u16) {
 
 // read V N: how many readings there are then.
 pub fn read(numbers: Numbers, held: usize, readings: &mut [u16]) -> usize {
-    let more = value_u16(numbers, 1) as usize;
-    if 28_801 < held {
+    let more = value_u32(numbers, 1) as usize;
+    if MOST_READINGS < held {
         return held;
     }
     let end = held + more;
