@@ -68,6 +68,10 @@ fn proved_terms(t: &Terms) -> i64 {
 
 // ---- period energy in plain Rust
 
+// The readings of a period, at two a second and at twenty.
+const AT_TWO: usize = 1800 * 2;
+const AT_TWENTY: usize = 1800 * 20;
+
 #[derive(Clone, Copy)]
 struct Point {
     deviation: u16,
@@ -129,11 +133,12 @@ fn refused(low: [u32; 3], high: [u32; 3], curves: &[Curve; 3], readings: &[u16])
     if !curves.iter().all(Curve::holds) {
         return Some(5);
     }
-    (readings.len() != 3600).then_some(6)
+    (readings.len() != AT_TWO && readings.len() != AT_TWENTY).then_some(6)
 }
 
-fn kwh(sum: u64) -> u32 {
-    ((sum + 7199) / 7200) as u32
+fn kwh(sum: u64, count: usize) -> u32 {
+    let divisor = 2 * count as u64;
+    ((sum + divisor - 1) / divisor) as u32
 }
 
 // The plain way: a division for each service and reading.
@@ -155,7 +160,7 @@ fn period_energy(low: [u32; 3], high: [u32; 3], curves: &[Curve; 3], readings: &
             above += all(high, r as u32 - 50000) as u64;
         }
     }
-    Ok((kwh(below), kwh(above)))
+    Ok((kwh(below, readings.len()), kwh(above, readings.len())))
 }
 
 // ---- period energy in three passes, a sketch: no loop divides
@@ -213,7 +218,7 @@ fn three_passes(low: [u32; 3], high: [u32; 3], curves: &[Curve; 3], readings: &[
         below += lows[(50000u32.saturating_sub(r) as usize).min(3000)] as u64;
         above += highs[(r.saturating_sub(50000) as usize).min(3000)] as u64;
     }
-    Ok((kwh(below), kwh(above)))
+    Ok((kwh(below, readings.len()), kwh(above, readings.len())))
 }
 
 // ---- both, with their bounds in one number
@@ -602,14 +607,14 @@ impl Random {
 }
 
 // Any reading within 300 mHz of 50,000.
-fn varied(random: &mut Random) -> Vec<u16> {
-    (0..3600).map(|_| 49700 + random.below(601) as u16).collect()
+fn varied(random: &mut Random, count: usize) -> Vec<u16> {
+    (0..count).map(|_| 49700 + random.below(601) as u16).collect()
 }
 
 // Steps of at most 3 mHz, kept within 300 mHz.
-fn walk(random: &mut Random) -> Vec<u16> {
+fn walk(random: &mut Random, count: usize) -> Vec<u16> {
     let mut at = 50000u16;
-    (0..3600)
+    (0..count)
         .map(|_| {
             at = (at + random.below(7) as u16 - 3).clamp(49700, 50300);
             at
@@ -618,13 +623,28 @@ fn walk(random: &mut Random) -> Vec<u16> {
 }
 
 // Within 20 mHz.
-fn calm(random: &mut Random) -> Vec<u16> {
-    (0..3600).map(|_| 49980 + random.below(41) as u16).collect()
+fn calm(random: &mut Random, count: usize) -> Vec<u16> {
+    (0..count).map(|_| 49980 + random.below(41) as u16).collect()
 }
 
 // Any reading at all.
-fn whole(random: &mut Random) -> Vec<u16> {
-    (0..3600).map(|_| 47000 + random.below(6001) as u16).collect()
+fn whole(random: &mut Random, count: usize) -> Vec<u16> {
+    (0..count).map(|_| 47000 + random.below(6001) as u16).collect()
+}
+
+// Periods of one kind, at two readings a second and at twenty.
+struct Kind {
+    name: &'static str,
+    two: Vec<Vec<u16>>,
+    twenty: Vec<Vec<u16>>,
+}
+
+impl Kind {
+    fn of(name: &'static str, f: fn(&mut Random, usize) -> Vec<u16>, random: &mut Random) -> Kind {
+        let two = (0..PERIODS).map(|_| f(random, AT_TWO)).collect();
+        let twenty = (0..PERIODS_AT_TWENTY).map(|_| f(random, AT_TWENTY)).collect();
+        Kind { name, two, twenty }
+    }
 }
 
 // A text of the report that is not refused.
@@ -651,6 +671,8 @@ fn terms(random: &mut Random) -> Terms {
 const REPETITIONS: usize = 401;
 // Different ones, so that no branch is foreseen because the same readings came before.
 const PERIODS: usize = 25;
+// Fewer at twenty a second: three have as many readings as 30 at two.
+const PERIODS_AT_TWENTY: usize = 3;
 
 // Microseconds for one of count.
 fn time(count: usize, f: &dyn Fn(usize)) -> f64 {
@@ -666,63 +688,121 @@ fn sorted(mut xs: Vec<f64>) -> Vec<f64> {
     xs
 }
 
-// The first way, which is the proved code, against each of the others, in turn.
-fn compare(work: &str, of: &str, count: usize, ways: &[&dyn Fn(usize)]) {
+fn least(times: &[f64]) -> f64 {
+    times.iter().copied().fold(f64::INFINITY, f64::min)
+}
+
+// The middle and the middle half of the ratios, each within one repetition.
+fn ratios(own: &[f64], other: &[f64]) -> [f64; 3] {
+    let all = sorted(own.iter().zip(other).map(|(x, y)| x / y).collect());
+    let middle = REPETITIONS / 2;
+    [all[middle], all[middle / 2], all[middle + middle / 2]]
+}
+
+// The times of each way, all in turn; beside a way stands how many periods, texts or terms it runs over.
+fn measure<F: Fn(usize)>(ways: &[(usize, &F)]) -> Vec<Vec<f64>> {
     let mut times = vec![Vec::new(); ways.len()];
     for _ in 0..REPETITIONS {
-        for (all, way) in times.iter_mut().zip(ways) {
-            all.push(time(count, way));
+        for (all, (count, way)) in times.iter_mut().zip(ways) {
+            all.push(time(*count, *way));
         }
     }
-    let own = times.remove(0);
-    let middle = REPETITIONS / 2;
-    print!("{:14} {:38} {:9.3}", work, of, sorted(own.clone())[0]);
-    for all in times {
-        let ratios = sorted(own.iter().zip(&all).map(|(x, y)| x / y).collect());
-        let least = sorted(all)[0];
-        let (low, high) = (ratios[middle / 2], ratios[middle + middle / 2]);
-        print!(" | {:9.3} {:6.3}  {:.3} to {:.3}", least, ratios[middle], low, high);
+    times
+}
+
+// The first way, which is the proved code, against each of the others.
+fn print_row(work: &str, of: &str, times: &[Vec<f64>]) {
+    print!("{:14} {:38} {:9.3}", work, of, least(&times[0]));
+    for other in &times[1..] {
+        let [middle, low, high] = ratios(&times[0], other);
+        print!(" | {:9.3} {:6.3}  {:.3} to {:.3}", least(other), middle, low, high);
+    }
+    println!();
+}
+
+fn compare<F: Fn(usize)>(work: &str, of: &str, count: usize, ways: &[F]) {
+    let ways: Vec<_> = ways.iter().map(|way| (count, way)).collect();
+    print_row(work, of, &measure(&ways));
+}
+
+// The same ways at two readings a second and at twenty, all in turn; then what a period at twenty costs as a multiple of one at
+// two: the ratio of the least times, and the middle and the middle half of the ratios.
+fn compare_rates<F: Fn(usize)>(works: [&str; 2], of: &str, two: &[F], twenty: &[F]) {
+    let at_two = two.iter().map(|way| (PERIODS, way));
+    let at_twenty = twenty.iter().map(|way| (PERIODS_AT_TWENTY, way));
+    let times = measure(&at_two.chain(at_twenty).collect::<Vec<_>>());
+    let (two, twenty) = times.split_at(two.len());
+    print_row(works[0], of, two);
+    print_row(works[1], of, twenty);
+    print!("{:53}", format!("36,000 by 3,600: {of}"));
+    for (name, (long, short)) in ["Rattle", "plain", "sketch"].iter().zip(twenty.iter().zip(two)) {
+        let [middle, low, high] = ratios(long, short);
+        print!(" | {} least {:.2} ratio {:.2}  {:.2} to {:.2}", name, least(long) / least(short), middle, low, high);
     }
     println!();
 }
 
 type Period = fn([u32; 3], [u32; 3], &[u16]) -> u64;
 
-fn periods(kinds: &[(&str, Vec<Vec<u16>>)]) {
+const PERIOD_WAYS: [Period; 3] = [proved_period, plain_period, sketched_period];
+
+fn same_period(q: [u32; 3], curves: [u32; 3], readings: &[u16]) -> u64 {
+    let [proved, plain, sketched] = PERIOD_WAYS.map(|f| f(q, curves, readings));
+    assert_eq!(proved, plain);
+    assert_eq!(sketched, plain);
+    plain
+}
+
+fn period_ways<'a>(q: [u32; 3], curves: [u32; 3], periods: &'a [Vec<u16>]) -> [impl Fn(usize) + 'a; 3] {
+    PERIOD_WAYS.map(|f| {
+        move |i: usize| {
+            black_box(f(black_box(q), black_box(curves), black_box(&periods[i])));
+        }
+    })
+}
+
+fn periods(kinds: &[Kind]) {
     for (shape, curves) in [("stock", [1, 2, 2]), ("rising", [3, 3, 3])] {
-        for (name, periods) in kinds {
+        for kind in kinds {
             for (services, q) in [("three", [40, 60, 100]), ("one", [0, 0, 100])] {
-                for readings in periods {
-                    let plain = plain_period(q, curves, readings);
-                    assert_eq!(proved_period(q, curves, readings), plain);
-                    assert_eq!(sketched_period(q, curves, readings), plain);
+                for readings in kind.two.iter().chain(&kind.twenty) {
+                    same_period(q, curves, readings);
                 }
-                let run = |f: Period| {
-                    move |i: usize| {
-                        black_box(f(black_box(q), black_box(curves), black_box(&periods[i])));
-                    }
-                };
-                let of = format!("{name}, {services}, {shape}");
-                compare("period energy", &of, PERIODS, &[&run(proved_period), &run(plain_period), &run(sketched_period)]);
+                let of = format!("{}, {services}, {shape}", kind.name);
+                let two = period_ways(q, curves, &kind.two);
+                if shape == "stock" {
+                    let twenty = period_ways(q, curves, &kind.twenty);
+                    compare_rates(["period energy", "period, 36,000"], &of, &two, &twenty);
+                } else {
+                    compare("period energy", &of, PERIODS, &two);
+                }
             }
         }
     }
 }
 
-// Readings that are refused, and such at the ends of the range; quantities that are refused.
+// Readings that are refused, and such at the ends of the range; counts of neither rate; quantities that are refused.
 fn odd_periods(random: &mut Random) {
-    for bad in [0u16, 46999, 47000, 53000, 53001, 65535] {
-        for at in [0, 1, 1799, 3598, 3599] {
-            let mut readings = whole(random);
-            readings[at] = bad;
-            for (q, curves) in [([40, 60, 100], [1, 2, 3]), ([0, 0, 1000], [3, 3, 3]), ([0, 0, 0], [1, 1, 1]), ([0, 1, 1000], [1, 1, 1])] {
-                for count in [3600, 3599, 0] {
-                    let plain = plain_period(q, curves, &readings[..count]);
-                    assert_eq!(proved_period(q, curves, &readings[..count]), plain);
-                    assert_eq!(sketched_period(q, curves, &readings[..count]), plain);
+    let units = [([40, 60, 100], [1, 2, 3]), ([0, 0, 1000], [3, 3, 3]), ([0, 0, 0], [1, 1, 1]), ([0, 1, 1000], [1, 1, 1])];
+    for count in [AT_TWO, AT_TWENTY] {
+        for bad in [0u16, 46999, 47000, 53000, 53001, 65535] {
+            for at in [0, 1, count / 2 - 1, count - count / 20, count - 2, count - 1] {
+                let mut readings = whole(random, count);
+                readings[at] = bad;
+                for (q, curves) in units {
+                    same_period(q, curves, &readings);
+                    same_period(q, curves, &readings[..count - 1]);
                 }
             }
         }
+    }
+    for count in [0, AT_TWO - 1, AT_TWO, AT_TWO + 1, AT_TWENTY / 2, AT_TWENTY - 1, AT_TWENTY, AT_TWENTY + 1] {
+        let readings = whole(random, count);
+        for (q, curves) in units {
+            same_period(q, curves, &readings);
+        }
+        let refused = same_period([40, 60, 100], [1, 2, 3], &readings) == 6;
+        assert_eq!(refused, count != AT_TWO && count != AT_TWENTY);
     }
 }
 
@@ -756,7 +836,7 @@ fn reports(random: &mut Random) {
                 black_box(f(black_box(&texts[i]), black_box(&mut output)));
             }
         };
-        compare("report", name, texts.len(), &[&run(proved_report), &run(plain_report)]);
+        compare("report", name, texts.len(), &[run(proved_report), run(plain_report)]);
     }
 }
 
@@ -771,7 +851,7 @@ fn term_checks(random: &mut Random) {
                 black_box(f(black_box(&all[i])));
             }
         };
-        compare("terms check", name, all.len(), &[&run(proved_terms), &run(plain_terms)]);
+        compare("terms check", name, all.len(), &[run(proved_terms), run(plain_terms)]);
     }
 }
 
@@ -781,37 +861,58 @@ fn same_closings(unit: [u32; 3], n: u32, c: &Closing, readings: &[u16], closed: 
     assert_eq!(plain_closings(unit, n, c, readings), number);
 }
 
-fn closings(kinds: &[(&str, Vec<Vec<u16>>)]) {
-    let unit = [100, 300_000, 150_000];
-    let c = |purchase, delivered, taken| Closing { purchase, delivered, taken };
-    for (name, periods) in kinds {
-        // as much is taken as delivered, so that all eight are carried out
-        let mut all = Vec::new();
-        for readings in periods {
-            let bounds = plain_period([0, 0, 100], [2, 2, 2], readings);
-            let (low, high) = ((bounds >> 32) as i64, (bounds & 0xffff_ffff) as i64);
-            let both = low.min(high);
-            same_closings(unit, 8, &c(0, both, both), readings, 8, 150_000);
-            same_closings(unit, 9, &c(0, both, both), readings, 8, 150_000);
-            same_closings(unit, 1, &c(1000, low, high), readings, 1, (151_000 - low + high) as u64);
-            for refused in [c(0, low + 1, high), c(0, low, high + 1), c(0, -1, 0), c(0, 0, -1)] {
-                same_closings(unit, 1, &refused, readings, 0, 150_000);
-            }
-            for purchase in [50_001, -50_001, i64::MAX, i64::MIN] {
-                same_closings(unit, 1, &c(purchase, low, high), readings, 0, 150_000);
-            }
-            for unit in [[0, 300_000, 150_000], [100, 199_999, 100_000], [1001, 9_000_000, 4_500_000]] {
-                same_closings(unit, 1, &c(0, both, both), readings, 0, 0);
-            }
-            all.push(c(0, both, both));
+fn closing(purchase: i64, delivered: i64, taken: i64) -> Closing {
+    Closing { purchase, delivered, taken }
+}
+
+// A closing for each period, after those that are refused: as much is taken as delivered, so that all eight are carried out.
+fn closings_of(unit: [u32; 3], periods: &[Vec<u16>]) -> Vec<Closing> {
+    let c = closing;
+    let mut all = Vec::new();
+    for readings in periods {
+        let bounds = plain_period([0, 0, 100], [2, 2, 2], readings);
+        let (low, high) = ((bounds >> 32) as i64, (bounds & 0xffff_ffff) as i64);
+        let both = low.min(high);
+        same_closings(unit, 8, &c(0, both, both), readings, 8, 150_000);
+        same_closings(unit, 9, &c(0, both, both), readings, 8, 150_000);
+        same_closings(unit, 1, &c(1000, low, high), readings, 1, (151_000 - low + high) as u64);
+        for refused in [c(0, low + 1, high), c(0, low, high + 1), c(0, -1, 0), c(0, 0, -1)] {
+            same_closings(unit, 1, &refused, readings, 0, 150_000);
         }
-        let run = |f: fn([u32; 3], u32, &Closing, &[u16]) -> u64| {
-            let all = &all;
-            move |i: usize| {
-                black_box(f(black_box(unit), black_box(8), black_box(&all[i]), black_box(&periods[i])));
-            }
-        };
-        compare("eight closings", name, PERIODS, &[&run(proved_closings), &run(plain_closings)]);
+        for purchase in [50_001, -50_001, i64::MAX, i64::MIN] {
+            same_closings(unit, 1, &c(purchase, low, high), readings, 0, 150_000);
+        }
+        for unit in [[0, 300_000, 150_000], [100, 199_999, 100_000], [1001, 9_000_000, 4_500_000]] {
+            same_closings(unit, 1, &c(0, both, both), readings, 0, 0);
+        }
+        all.push(c(0, both, both));
+    }
+    all
+}
+
+type Closings = fn([u32; 3], u32, &Closing, &[u16]) -> u64;
+
+fn closing_ways<'a>(unit: [u32; 3], all: &'a [Closing], periods: &'a [Vec<u16>]) -> [impl Fn(usize) + 'a; 2] {
+    [proved_closings as Closings, plain_closings].map(|f| {
+        move |i: usize| {
+            black_box(f(black_box(unit), black_box(8), black_box(&all[i]), black_box(&periods[i])));
+        }
+    })
+}
+
+fn closings(kinds: &[Kind]) {
+    let unit = [100, 300_000, 150_000];
+    for (n, kind) in kinds.iter().enumerate() {
+        let all = closings_of(unit, &kind.two);
+        let all_at_twenty = closings_of(unit, &kind.twenty);
+        let two = closing_ways(unit, &all, &kind.two);
+        // at twenty a second for the first kind alone: the plain ones take milliseconds
+        if n == 0 {
+            let twenty = closing_ways(unit, &all_at_twenty, &kind.twenty);
+            compare_rates(["eight closings", "eight, 36,000"], kind.name, &two, &twenty);
+        } else {
+            compare("eight closings", kind.name, PERIODS, &two);
+        }
     }
     // refused before a reading is looked at: what the record rule and the purchase cost by themselves
     let refused = [
@@ -820,22 +921,22 @@ fn closings(kinds: &[(&str, Vec<Vec<u16>>)]) {
         ("blank record refused", [0, 300_000, 150_000], 0, 0),
     ];
     for (name, unit, purchase, state) in refused {
-        same_closings(unit, 8, &c(purchase, 0, 0), &[], 0, state);
-        let run = |f: fn([u32; 3], u32, &Closing, &[u16]) -> u64| {
-            let c = c(purchase, 0, 0);
+        same_closings(unit, 8, &closing(purchase, 0, 0), &[], 0, state);
+        let run = |f: Closings| {
+            let c = closing(purchase, 0, 0);
             move |_: usize| {
                 black_box(f(black_box(unit), black_box(8), black_box(&c), black_box(&[])));
             }
         };
-        compare("eight closings", name, 1000, &[&run(proved_closings), &run(plain_closings)]);
+        compare("eight closings", name, 1000, &[run(proved_closings), run(plain_closings)]);
     }
 }
 
 fn main() {
     let mut random = Random(1);
-    let mut some = |f: fn(&mut Random) -> Vec<u16>| (0..PERIODS).map(|_| f(&mut random)).collect::<Vec<_>>();
-    let within = [("within 300 mHz", some(varied)), ("a slow walk", some(walk)), ("calm", some(calm))];
-    let any = [("within 3,000 mHz", some(whole))];
+    let mut kind = |name, f| Kind::of(name, f, &mut random);
+    let within = [kind("within 300 mHz", varied), kind("a slow walk", walk), kind("calm", calm)];
+    let any = [kind("within 3,000 mHz", whole)];
     let title = |of: &str| format!("| {:>9} {:>6}  {:14}", of, "ratio", "middle half");
     println!("{:14} {:38} {:>9} {} {}", "work", "of", "Rattle, us", title("plain, us"), title("sketch"));
     odd_periods(&mut random);
