@@ -3,14 +3,14 @@ use mathlib.Core.Path.{_≡_, refl}
 use mathlib.Core.Bool.{Bool, true, false, _||_}
 use Prim.Native.Nat.{ℕ, _*_, _≤_, _<_}
 use native.Mathlib.Omega.{arith}
-use borrow.Author.Tests.{eqb-true, eq-eqb}
+use borrow.Author.Tests.{eqb-true}
 use lib.Dec.{eqb}
 use Rattle.energy.specs.Rate.{Rate, two, twenty, periodCount, blockCount, atSomeRate, isPeriodCount, isBlockCount, partLength}
 
 -- a count that a test lets through is that of a rate
-pub record AtRate (count : Rate → ℕ) (n : ℕ) : Type 0 where
-  pub rate : Rate
-  pub same : n ≡ count rate
+record AtRate (count : Rate → ℕ) (n : ℕ) : Type 0 where
+  rate : Rate
+  same : n ≡ count rate
 
 at-rate : (count : Rate → ℕ) (n : ℕ) → atSomeRate (λ (rate : Rate). eqb n (count rate)) ≡ true → AtRate count n
 at-rate count n = by (eqb n (count two)) (λ e. eqb-true n (count two) e)
@@ -43,10 +43,11 @@ period-range n e =
     let a = at-rate periodCount n e in
     record { least = omega (arith, a .same, period-least (a .rate)); most = omega (arith, a .same, period-most (a .rate)) }
 
--- a block's count is eight times that of its parts, which are periods
+-- a block's count is eight times that of its parts, which is a period's, and at most the greater
 pub record Eighths (n : ℕ) : Type 0 where
   pub all : n ≡ 8 * partLength n
   pub range : PeriodRange (partLength n)
+  pub most : n ≤ blockCount twenty
 
 pub eighths : (n : ℕ) → isBlockCount n ≡ true → Eighths n
 unfolding isBlockCount
@@ -55,4 +56,5 @@ eighths n e =
     record {
       all = omega (arith, a .same);
       range = record { least = omega (arith, a .same, period-least (a .rate)); most = omega (arith, a .same, period-most (a .rate)) };
+      most = omega (arith, a .same, period-most (a .rate));
     }

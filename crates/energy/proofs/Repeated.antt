@@ -7,8 +7,8 @@ use native.Mathlib.Omega.{arith}
 use lib.ListN.{length, replicate, length-append, length-replicate}
 use Rattle.common.specs.Lists.{sum, every}
 use Rattle.terms.specs.declared.Quantities.{Quantities}
-use Rattle.energy.specs.Period.{isReading, goodReadings, lowDeviation, highDeviation, responses, responseSum, bound, boundsOf, periodEnergy, repeated, SameTenTimes, TenTimes}
-use Rattle.energy.specs.Rate.{two, twenty, periodCount, isPeriodCount, divisor}
+use Rattle.energy.specs.Period.{isReading, goodReadings, lowDeviation, highDeviation, responses, responseSum, bound, periodEnergy, repeated, TenTimes}
+use Rattle.energy.specs.Rate.{two, twenty, periodCount, divisor}
 use Rattle.energy.specs.declared.curve.Curves.{Curves}
 use Rattle.energy.proofs.Rates.{good-period}
 use Rattle.energy.proofs.Rounding.{up-scaled}

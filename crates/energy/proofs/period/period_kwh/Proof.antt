@@ -1,8 +1,6 @@
 -- `energy::period::period_kwh` meets its contract: the energy is at most 500,000 kWh. Assumes nothing.
-use Prim.Native.Nat.{_*_, _≤_}
 use native.Mathlib.Omega.{arith}
 use borrow.Author.Needs.{needs}
-use Rattle.common.specs.Fraction.{roundedUp}
 use Rattle.energy.specs.Rate.{divisor}
 use Rattle.energy.proofs.Rates.{PeriodRange, period-range}
 use Rattle.energy.proofs.Rounding.{up-le}
