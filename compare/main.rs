@@ -1,5 +1,5 @@
-//! Compares the proved code with a second program that was written from paper 01 alone: the functions of include/soe.h as a
-//! host calls them, and the rest through the program ledger_trace.
+//! Compares the proved code with a second program that was written from papers 01 and 02 alone: the functions of include/soe.h
+//! as a host calls them, and the rest through the program ledger_trace.
 //!
 //! `compare SEED ROUNDS LEDGER_TRACE`, from the repository's root. It stops at the first difference with exit status 1.
 
@@ -30,6 +30,7 @@ fn main() {
     papers::compare(runs, tally);
     host_cases::damaged_reports(tally);
     trace_cases::energy_edges(random, runs, tally);
+    trace_cases::count_edges(runs, tally);
     trace_cases::block_edges(runs, tally);
     trace_cases::malformed(runs, tally);
     for _ in 0..rounds {
@@ -39,12 +40,13 @@ fn main() {
         host_cases::damaged_random_report(random, tally);
         for _ in 0..4 {
             runs.add(trace_cases::energy(random), tally);
+            runs.add(trace_cases::block(random), tally);
             runs.add(trace_cases::opening(random), tally);
             runs.add(trace_cases::list(random), tally);
             runs.add(trace_cases::made_up(random), tally);
         }
         runs.add(trace_cases::energy_refusals(random), tally);
-        runs.add(trace_cases::block(random), tally);
+        runs.add(trace_cases::both_rates(random), tally);
         runs.add(trace_cases::opening_causes(random), tally);
         runs.add(trace_cases::broken_closings(random), tally);
         runs.add(trace_cases::blank_record(random), tally);

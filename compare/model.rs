@@ -1,7 +1,7 @@
-//! Paper 01 written out from the paper alone, plain and slow. Every number is an i128, which none of the sums and products
-//! here leaves, and every division is an exact fraction, rounded where the paper rounds.
+//! Paper 01 and No. 1 of paper 02, written out from the papers alone, plain and slow. Every number is an i128, which none of
+//! the sums and products here leaves, and every division is an exact fraction, rounded where the papers round.
 //!
-//! A refusal is its number in the paper's table "When a call declines"; 0 is no refusal.
+//! A refusal is its number in paper 01's table "When a call declines"; 0 is no refusal.
 
 pub type Int = i128;
 
@@ -149,6 +149,48 @@ pub fn terms_check(t: &Terms) -> i64 {
     }
 }
 
+// Rates
+
+/// How many readings a second a plant files.
+#[derive(Clone, Copy, PartialEq, Eq, Debug)]
+pub struct Rate(usize);
+
+/// "Two a second"; No. 1: "Twenty readings a second."
+pub const RATES: [Rate; 2] = [Rate(2), Rate(20)];
+
+/// "A block has eight half-hour settlement periods."
+const PERIODS: usize = 8;
+
+/// Half an hour.
+const PERIOD_SECONDS: usize = 1_800;
+
+impl Rate {
+    /// "A period has 3,600 readings, two a second." No. 1: "A period of 36,000 readings is to be accepted."
+    pub fn period(self) -> usize {
+        self.0 * PERIOD_SECONDS
+    }
+
+    /// "A block has 28,800 readings." No. 1: "A block may then have 288,000 readings."
+    pub fn block(self) -> usize {
+        PERIODS * self.period()
+    }
+
+    /// "Divided by 7,200"; No. 1: "divided by 72,000". From kW in each reading to kWh: the readings of an hour, two periods.
+    pub fn divisor(self) -> Int {
+        2 * self.period() as Int
+    }
+
+    /// The rate of a period with so many readings. No. 1: "Refusal 6 now covers every other count."
+    fn of_period(count: usize) -> Option<Rate> {
+        RATES.into_iter().find(|rate| rate.period() == count)
+    }
+
+    /// The rate of a block with so many readings: one for all of it.
+    fn of_block(count: usize) -> Option<Rate> {
+        RATES.into_iter().find(|rate| rate.block() == count)
+    }
+}
+
 // Period energy
 
 /// The points of a service's curve: deviation in mHz, share per mille.
@@ -197,23 +239,26 @@ fn deviations(reading: u16) -> (Int, Int) {
     (below.max(0), (-below).max(0))
 }
 
-/// Both bounds: "the sum over readings and services divided by 7,200, rounded up once".
+/// Both bounds of readings that refusal 6 lets through: "the sum over readings and services divided by" the rate's divisor,
+/// "rounded up once". Equal readings in a row are added as one product, their count times the response.
 fn bounds(low: &Direction, high: &Direction, curves: &[Curve; 3], readings: &[u16]) -> (Int, Int) {
+    let rate = Rate::of_period(readings.len()).expect("a period's count");
     let mut sums = (0, 0);
-    for &reading in readings {
-        let (below, above) = deviations(reading);
+    for equal in readings.chunk_by(|a, b| a == b) {
+        let count = equal.len() as Int;
+        let (below, above) = deviations(equal[0]);
         for s in 0..3 {
-            sums.0 += response(low.0[s], &curves[s], below);
-            sums.1 += response(high.0[s], &curves[s], above);
+            sums.0 += count * response(low.0[s], &curves[s], below);
+            sums.1 += count * response(high.0[s], &curves[s], above);
         }
     }
-    let energy = |sum| Fraction::new(sum, 7_200).rounded_up();
+    let energy = |sum| Fraction::new(sum, rate.divisor()).rounded_up();
     (energy(sums.0), energy(sums.1))
 }
 
 /// Cause 6 for the readings of a period.
 fn period_breaks(readings: &[u16]) -> bool {
-    readings.len() != 3_600 || readings.iter().any(|&r| !good_reading(r))
+    Rate::of_period(readings.len()).is_none() || readings.iter().any(|&r| !good_reading(r))
 }
 
 /// "Period energy gives both directions' bounds and checks 1, 5, 6."
@@ -237,23 +282,25 @@ pub fn period_energy(
 
 /// "A check names the first bad reading, by period and then by place, counted from 1 in its period"; "0 and 0 for a count".
 pub fn block_check(readings: &[u16]) -> (i64, usize, usize) {
-    if readings.len() != 28_800 {
+    let Some(rate) = Rate::of_block(readings.len()) else {
         return (6, 0, 0);
-    }
+    };
     match readings.iter().position(|&r| !good_reading(r)) {
-        Some(at) => (6, at / 3_600 + 1, at % 3_600 + 1),
+        Some(at) => (6, at / rate.period() + 1, at % rate.period() + 1),
         None => (0, 0, 0),
     }
 }
 
 /// "The readings of one period, 1 to 8, are handed back as a part of the block's readings. That looks only at count and
-/// period."
+/// period." No. 1: "A period's part is cut accordingly."
 pub fn part(readings: &[u16], period: Int) -> &[u16] {
-    if readings.len() != 28_800 || !(1..=8).contains(&period) {
-        return &[];
+    match Rate::of_block(readings.len()) {
+        Some(rate) if (1..=PERIODS as Int).contains(&period) => {
+            let first = (period as usize - 1) * rate.period();
+            &readings[first..first + rate.period()]
+        }
+        _ => &[],
     }
-    let first = (period as usize - 1) * 3_600;
-    &readings[first..first + 3_600]
 }
 
 // Requirement

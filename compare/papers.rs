@@ -1,7 +1,8 @@
-//! The examples of paper 01 and the tables of documents 000 and 003 as they are printed, held to the model and compared.
+//! The examples of paper 01, the counts of both papers and the tables of documents 000 and 003 as they are printed, held to
+//! the model and compared.
 
 use crate::host;
-use crate::model::{self, Curve, Direction, Int, Levels, Terms};
+use crate::model::{self, Curve, Direction, Int, Levels, Terms, RATES};
 use crate::tally::{printed, Tally};
 use crate::trace::{Runs, Script};
 
@@ -66,6 +67,7 @@ pub fn containment() -> Curve {
 }
 
 pub fn compare(runs: &mut Runs, tally: &mut Tally) {
+    rates();
     report(tally);
     terms(tally);
     quantity(tally);
@@ -73,6 +75,16 @@ pub fn compare(runs: &mut Runs, tally: &mut Tally) {
     table(&TABLE_8, Direction([40, 0, 0]), 2, tally);
     runs.add(energy(), tally);
     runs.add(ledger(), tally);
+}
+
+/// "A period has 3,600 readings"; "divided by 7,200"; "a block has 28,800 readings". 02, No. 1: "A period of 36,000 readings
+/// is to be accepted; its sum is divided by 72,000"; "a block may then have 288,000 readings".
+fn rates() {
+    printed(
+        "period, divisor and block",
+        [(3_600, 7_200, 28_800), (36_000, 72_000, 288_000)],
+        RATES.map(|rate| (rate.period(), rate.divisor(), rate.block())),
+    );
 }
 
 fn report(tally: &mut Tally) {
@@ -185,8 +197,8 @@ fn table(table: &Table, direction: Direction, number: Int, tally: &mut Tally) {
     }
 }
 
-/// "Regulation, 100 MW: 49,985 gives 0 kW; 49,984 gives 541; 49,800 gives 100,000." "All 3,600 at 49,984: 271 kWh."
-/// The other energies follow from the kW.
+/// "Regulation, 100 MW: 49,985 gives 0 kW; 49,984 gives 541; 49,800 gives 100,000." "All 3,600 at 49,984: 271 kWh." The
+/// other energies follow from the kW. 02, No. 1: 36,000 × 541 / 72,000 is 270.5, and rounded up 271 too.
 fn energy() -> Script {
     for (deviation, kw) in [(15, 0), (16, 541), (200, 100_000)] {
         printed(
@@ -198,9 +210,11 @@ fn energy() -> Script {
     let mut script = Script::new(TOPIC);
     script.curves(&[containment(), regulation(), regulation()]);
     let mut constant = |reading, line: &str| {
-        script.read(reading, 3_600);
-        script.energy(&Direction([0, 0, 100]), &Direction::default());
-        script.printed(line);
+        for count in [3_600, 36_000] {
+            script.read(reading, count);
+            script.energy(&Direction([0, 0, 100]), &Direction::default());
+            script.printed(line);
+        }
     };
     constant(49_985, "energy 0 0 0");
     constant(49_984, "energy 0 271 0");

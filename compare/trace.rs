@@ -8,6 +8,9 @@ use std::process::{Command, Stdio};
 /// The bytes of input that ledger_trace reads.
 pub const GREATEST_INPUT: usize = 1_000_000;
 
+/// The readings that ledger_trace takes in all, until they are empty again.
+pub const MOST_READINGS: usize = 288_001;
+
 /// A line that ledger_trace has to print.
 struct Line {
     text: String,
@@ -173,12 +176,13 @@ impl Script {
         *place(&mut self.record, k) = value;
     }
 
-    pub fn energy(&mut self, low: &Direction, high: &Direction) {
+    pub fn energy(&mut self, low: &Direction, high: &Direction) -> (i64, Int, Int) {
         let (l, h) = (low.0, high.0);
         self.feed("energy", &[l[0], l[1], l[2], h[0], h[1], h[2]]);
         let (number, l, h) = model::period_energy(low, high, &self.curves, &self.readings);
         self.readings.clear();
         self.expect("energy", number, &[l, h]);
+        (number, l, h)
     }
 
     pub fn block(&mut self) {
@@ -267,11 +271,14 @@ impl Runs {
         }
     }
 
-    pub fn add(&mut self, script: Script, tally: &mut Tally) {
+    pub fn add(&mut self, mut script: Script, tally: &mut Tally) {
+        assert!(script.text.len() <= GREATEST_INPUT);
         if self.length + script.text.len() > GREATEST_INPUT {
             self.run(tally);
         }
         self.length += script.text.len();
+        // The answers are there; a block's readings need not be kept for them.
+        script.readings = Vec::new();
         self.scripts.push(script);
     }
 

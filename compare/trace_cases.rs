@@ -1,16 +1,14 @@
 //! Cases for ledger_trace: period energy, blocks and parts, lists of ledger calls, made-up records.
 
 use crate::host_cases::{any_direction, any_terms, good_bounds, good_direction, rising};
-use crate::model::{Curve, Direction, Entries, Int, Record, Terms};
+use crate::model::{Curve, Direction, Entries, Int, Rate, Record, Terms, RATES};
 use crate::papers::{containment, regulation};
 use crate::random::Random;
 use crate::tally::Tally;
-use crate::trace::{numbers, places, Runs, Script, GREATEST_INPUT};
+use crate::trace::{numbers, places, Runs, Script, GREATEST_INPUT, MOST_READINGS};
 
 const MAX: Int = u32::MAX as Int;
 const I64: [Int; 2] = [i64::MIN as Int, i64::MAX as Int];
-const PERIOD: usize = 3_600;
-const BLOCK: usize = 28_800;
 const BAD_READINGS: [u16; 6] = [46_999, 53_001, 0, 1, 40_000, u16::MAX];
 
 // Curves and readings
@@ -114,12 +112,38 @@ enum Weather {
     Any,
 }
 
-/// `count` good readings: one value, few runs of corners, or a walk.
+/// About how many steps a walk has in a script that has others: each is a line of the text, which must not get too long.
+const STEPS: usize = 3_000;
+
+/// The same where a script has many walks.
+const FEW_STEPS: usize = 400;
+
+/// A period's readings in about so many steps, each held for one reading or, where the period has more, for several.
+fn walk(
+    random: &mut Random,
+    from: u16,
+    (least, most): (Int, Int),
+    rate: Rate,
+    steps: usize,
+) -> Vec<u16> {
+    let mut readings = Vec::new();
+    let mut at = Int::from(from);
+    while readings.len() < rate.period() {
+        at = (at + random.between(-20, 20)).clamp(least, most);
+        let held = 1 + random.below(2 * (rate.period() / steps) - 1);
+        let length = (readings.len() + held).min(rate.period());
+        readings.resize(length, at as u16);
+    }
+    readings
+}
+
+/// A period's readings, all good: one value, few runs of corners, or a walk.
 fn good_readings(
     random: &mut Random,
     weather: Weather,
     curves: &[Curve; 3],
-    count: usize,
+    rate: Rate,
+    steps: usize,
 ) -> Vec<u16> {
     let (least, most) = match weather {
         Weather::Calm => (49_900, 50_100),
@@ -136,36 +160,77 @@ fn good_readings(
             random.pick(&corners)
         }
     };
-    let mut readings = Vec::new();
+    let count = rate.period();
     match random.below(8) {
-        0 => readings.resize(count, value(random)),
+        0 => vec![value(random); count],
         1 => {
-            // A walk, a step for each reading.
-            let mut at = Int::from(value(random));
-            for _ in 0..count {
-                at = (at + random.between(-20, 20)).clamp(least, most);
-                readings.push(at as u16);
-            }
+            let from = value(random);
+            walk(random, from, (least, most), rate, steps)
         }
         _ => {
+            let mut readings = Vec::new();
             while readings.len() < count {
                 let run = 1 + random.below(count / 8);
                 let length = (readings.len() + run).min(count);
                 readings.resize(length, value(random));
             }
+            readings
         }
     }
-    readings
 }
 
-/// Readings that refusal 6 stops: another count, or a bad one at either end or between.
-fn bad_readings(random: &mut Random, count: usize) -> Vec<u16> {
-    let mut readings = vec![50_000; count];
-    if random.once_in(3) {
-        readings.resize(random.pick(&[0, 1, count - 1, count + 1]), 50_000);
-    } else {
-        let at = random.within(0, count as Int - 1) as usize;
-        readings[at] = random.pick(&BAD_READINGS);
+/// The counts that there can be: each rate's period and block.
+fn good_counts() -> impl Iterator<Item = usize> {
+    RATES.into_iter().flat_map(|r| [r.period(), r.block()])
+}
+
+/// The good counts, one more and one less, half and twice as many, what 16 bits keep of them and what they take for them; eight
+/// periods, some at one rate and some at the other; others.
+fn counts() -> Vec<usize> {
+    let mut counts = vec![0, 1, 25_200, 32_400, 39_600, 252_000, 259_200];
+    for count in good_counts() {
+        counts.extend([count - 1, count, count + 1, count / 2, 2 * count]);
+        counts.extend([count % 65_536, count + 65_536]);
+    }
+    let [one, other] = RATES.map(|rate| rate.period());
+    counts.extend((1..8).map(|periods| periods * one + (8 - periods) * other));
+    counts.retain(|&count| count <= MOST_READINGS);
+    counts.sort();
+    counts.dedup();
+    counts
+}
+
+/// Places in a period of `count` readings, counted from 0: at its ends, at those of its first and last tenth, in its middle.
+fn ends(count: usize) -> [usize; 9] {
+    let tenth = count / 10;
+    [
+        0,
+        1,
+        tenth - 1,
+        tenth,
+        count / 2,
+        count - tenth - 1,
+        count - tenth,
+        count - 2,
+        count - 1,
+    ]
+}
+
+/// A period's readings that refusal 6 stops: another count, or a bad one.
+fn bad_readings(random: &mut Random, rate: Rate) -> Vec<u16> {
+    let mut readings = vec![50_000; rate.period()];
+    match random.below(6) {
+        0 => {
+            let beside = [0, 1, rate.period() - 1, rate.period() + 1];
+            readings.resize(random.pick(&beside), 50_000);
+        }
+        1 => {
+            let mut others = counts();
+            others.retain(|&count| RATES.iter().all(|rate| count != rate.period()));
+            readings.resize(random.pick(&others), 50_000);
+        }
+        2 | 3 => readings[random.pick(&ends(rate.period()))] = random.pick(&BAD_READINGS),
+        _ => readings[random.below(rate.period())] = random.pick(&BAD_READINGS),
     }
     readings
 }
@@ -181,85 +246,170 @@ fn divisor(a: Int, b: Int) -> Int {
     }
 }
 
-/// A few hundred scripts, each once: curves broken in each way, readings at each corner, each reading by itself.
+/// Each once at each rate: curves broken in each way, readings at each corner, each reading by itself, sums around multiples of
+/// what divides them.
 pub fn energy_edges(random: &mut Random, runs: &mut Runs, tally: &mut Tally) {
-    const TOPIC: &str = "energy, edges";
-    let (none, full) = (Direction::default(), Direction([0, 0, 1_000]));
-    for count in 1..=5 {
-        let mut script = Script::new(TOPIC);
-        script.curves(&[regulation(), regulation(), regulation()]);
-        for curve in edge_curves(random, count) {
-            let service = random.below(3);
-            script.curve(service, &curve);
-            script.read(49_900, 1_800);
-            script.read(50_120, 1_800);
-            script.energy(&full, &Direction([300, 300, 300]));
-            script.curve(service, &regulation());
+    for rate in RATES {
+        for count in 1..=5 {
+            runs.add(broken_curves(random, rate, count), tally);
         }
-        runs.add(script, tally);
+        runs.add(range_ends(rate), tally);
+        for (width, rise) in [
+            (3_000, 1_000),
+            (2_999, 1_000),
+            (2_999, 1),
+            (2_997, 999),
+            (2_048, 1_000),
+        ] {
+            runs.add(wide_segments(random, rate, width, rise), tally);
+        }
+        for curves in [
+            [containment(), regulation(), regulation()],
+            good_curves(random),
+        ] {
+            runs.add(every_reading(rate, &curves), tally);
+            runs.add(full_walk(random, rate, &curves), tally);
+        }
+        runs.add(sums(rate), tally);
+        runs.add(uneven_tens(rate), tally);
     }
-    // A period's count, and a reading's range at either end of the period.
-    let mut script = Script::new(TOPIC);
+}
+
+const EDGES: &str = "energy, edges";
+
+/// Each way in which a curve of `count` points breaks its rule, and each limit that it may just reach.
+fn broken_curves(random: &mut Random, rate: Rate, count: usize) -> Script {
+    let mut script = Script::new(EDGES);
+    script.curves(&[regulation(), regulation(), regulation()]);
+    for curve in edge_curves(random, count) {
+        let service = random.below(3);
+        script.curve(service, &curve);
+        script.read(49_900, rate.period() / 2);
+        script.read(50_120, rate.period() / 2);
+        script.energy(&Direction([0, 0, 1_000]), &Direction([300, 300, 300]));
+        script.curve(service, &regulation());
+    }
+    script
+}
+
+/// A reading's range, at the ends of the period and of its tenths.
+fn range_ends(rate: Rate) -> Script {
+    let mut script = Script::new(EDGES);
     script.curves(&[containment(), regulation(), regulation()]);
-    for count in [0, 1, PERIOD - 1, PERIOD, PERIOD + 1, BLOCK, BLOCK + 1] {
-        script.read(49_500, count);
-        script.energy(&full, &none);
-    }
+    let full = Direction([0, 0, 1_000]);
     for value in [0, 46_999, 47_000, 47_001, 52_999, 53_000, 53_001, u16::MAX] {
-        for before in [0, 1, 1_800, PERIOD - 2, PERIOD - 1] {
+        for before in ends(rate.period()) {
             script.read(50_000, before);
             script.read(value, 1);
-            script.read(50_000, PERIOD - 1 - before);
+            script.read(50_000, rate.period() - 1 - before);
             script.energy(&full, &full);
         }
     }
-    runs.add(script, tally);
-    // Segments as wide as can be, at deviations where MW times the share is a whole number, and beside them.
-    for (width, rise) in [
-        (3_000, 1_000),
-        (2_999, 1_000),
-        (2_999, 1),
-        (2_997, 999),
-        (2_048, 1_000),
-    ] {
-        let mut script = Script::new(TOPIC);
-        let curve = Curve(vec![(3_000 - width, 0), (3_000, rise)]);
-        script.curves(&[curve.clone(), curve.clone(), curve]);
-        for mw in [1, 7, 997, 1_000] {
-            let step = width / divisor(width, mw * rise);
-            for _ in 0..6 {
-                let whole = step * random.within(0, width / step);
-                for past in [whole - 1, whole, whole + 1] {
-                    let d = (3_000 - width + past).clamp(0, 3_000) as u16;
-                    script.read(50_000 - d, PERIOD / 2);
-                    script.read(50_000 + d, PERIOD / 2);
-                    script.energy(&Direction([mw, 0, 0]), &Direction([0, 0, mw]));
-                }
+    script
+}
+
+/// A segment as wide as can be, at deviations where MW times the share is a whole number, and beside them.
+fn wide_segments(random: &mut Random, rate: Rate, width: Int, rise: Int) -> Script {
+    let mut script = Script::new(EDGES);
+    let curve = Curve(vec![(3_000 - width, 0), (3_000, rise)]);
+    script.curves(&[curve.clone(), curve.clone(), curve]);
+    for mw in [1, 7, 997, 1_000] {
+        let step = width / divisor(width, mw * rise);
+        for _ in 0..6 {
+            let whole = step * random.within(0, width / step);
+            for past in [whole - 1, whole, whole + 1] {
+                let d = (3_000 - width + past).clamp(0, 3_000) as u16;
+                script.read(50_000 - d, rate.period() / 2);
+                script.read(50_000 + d, rate.period() / 2);
+                script.energy(&Direction([mw, 0, 0]), &Direction([0, 0, mw]));
             }
         }
-        runs.add(script, tally);
     }
-    // Every reading at least once; the least energy that a single reading gives.
-    for curves in [
-        [containment(), regulation(), regulation()],
-        good_curves(random),
-    ] {
-        let mut script = Script::new(TOPIC);
-        script.curves(&curves);
-        let all: Vec<u16> = (47_000..=53_000).collect();
-        for part in [&all[..PERIOD], &all[all.len() - PERIOD..]] {
-            script.read_all(part);
-            script.energy(&Direction([333, 333, 334]), &Direction([1, 2, 3]));
-        }
-        for corner in corners(&curves) {
-            script.read(corner, 1);
-            script.read(50_000, PERIOD - 1);
-            script.energy(&Direction([7, 0, 0]), &Direction([0, 0, 7]));
-            script.read(corner, PERIOD);
-            script.energy(&Direction([1, 1, 1]), &Direction([1, 1, 998]));
-        }
-        runs.add(script, tally);
+    script
+}
+
+/// Every reading at least once; the least energy that a single reading gives.
+fn every_reading(rate: Rate, curves: &[Curve; 3]) -> Script {
+    let mut script = Script::new(EDGES);
+    script.curves(curves);
+    let values = 47_000..=53_000;
+    let times = rate.period().div_ceil(values.len());
+    let all: Vec<u16> = values.flat_map(|value| vec![value; times]).collect();
+    for part in [&all[..rate.period()], &all[all.len() - rate.period()..]] {
+        script.read_all(part);
+        script.energy(&Direction([333, 333, 334]), &Direction([1, 2, 3]));
     }
+    for corner in corners(curves) {
+        script.read(corner, 1);
+        script.read(50_000, rate.period() - 1);
+        script.energy(&Direction([7, 0, 0]), &Direction([0, 0, 7]));
+        script.read(corner, rate.period());
+        script.energy(&Direction([1, 1, 1]), &Direction([1, 1, 998]));
+    }
+    script
+}
+
+/// A walk with a step for each reading.
+fn full_walk(random: &mut Random, rate: Rate, curves: &[Curve; 3]) -> Script {
+    let mut script = Script::new(EDGES);
+    script.curves(curves);
+    let steps = rate.period();
+    script.read_all(&walk(random, 50_000, (49_000, 51_000), rate, steps));
+    script.energy(&good_direction(random), &good_direction(random));
+    script
+}
+
+/// A curve by which n MW respond to a deviation of d with n × d kW.
+fn proportional() -> Curve {
+    Curve(vec![(0, 0), (1_000, 1_000)])
+}
+
+/// `count` deviations with this sum, as even as they can be.
+fn deviations(count: usize, sum: usize) -> Vec<u16> {
+    let mut deviations = vec![(sum / count) as u16; count];
+    deviations[..sum % count].iter_mut().for_each(|d| *d += 1);
+    deviations
+}
+
+/// Sums of kW at multiples of each rate's divisor and beside them, which show a reading left out or taken twice; sums that 31
+/// to 35 bits just hold, and just do not; the greatest.
+fn sums(rate: Rate) -> Script {
+    let mut script = Script::new(EDGES);
+    script.curves(&[proportional(), proportional(), proportional()]);
+    let mut sums = vec![(1_000, 1_000 * rate.period())];
+    for divisor in RATES.map(|rate| rate.divisor() as usize) {
+        for multiple in [1, 2, 9, 10, 11, 499].map(|times| times * divisor) {
+            sums.extend([multiple - 1, multiple, multiple + 1].map(|sum| (1, sum)));
+        }
+    }
+    for held in (31..=35).map(|bits| (1 << bits) / 1_000) {
+        sums.extend([(1_000, held), (1_000, held + 1)]);
+    }
+    sums.retain(|&(_, sum)| sum <= 1_000 * rate.period());
+    for (mw, sum) in sums {
+        let (none, some) = (Direction::default(), Direction([0, mw, 0]));
+        let deviations = deviations(rate.period(), sum);
+        let below: Vec<u16> = deviations.iter().map(|d| 50_000 - d).collect();
+        script.read_all(&below);
+        script.energy(&some, &none);
+        let above: Vec<u16> = deviations.iter().map(|d| 50_000 + d).collect();
+        script.read_all(&above);
+        script.energy(&none, &some);
+    }
+    script
+}
+
+/// Readings that differ within each ten; the bound changes where a ten's mean is first rounded, up or down.
+fn uneven_tens(rate: Rate) -> Script {
+    let mut script = Script::new(EDGES);
+    script.curves(&[proportional(), proportional(), proportional()]);
+    for sums in [[135, 145], [137, 147]] {
+        let tens = (0..rate.period() / 10).flat_map(|ten| deviations(10, sums[ten % 2]));
+        let readings: Vec<u16> = tens.map(|d| 50_000 - d).collect();
+        script.read_all(&readings);
+        script.energy(&Direction([1, 0, 0]), &Direction::default());
+    }
+    script
 }
 
 pub fn energy(random: &mut Random) -> Script {
@@ -276,10 +426,11 @@ pub fn energy(random: &mut Random) -> Script {
         if broken {
             script.curve(service, &broken_curve(random));
         }
+        let rate = random.pick(&RATES);
         let readings = if random.once_in(8) {
-            bad_readings(random, PERIOD)
+            bad_readings(random, rate)
         } else {
-            good_readings(random, Weather::Any, &curves, PERIOD)
+            good_readings(random, Weather::Any, &curves, rate, STEPS)
         };
         script.read_all(&readings);
         script.energy(&low, &high);
@@ -294,23 +445,53 @@ pub fn energy(random: &mut Random) -> Script {
 pub fn energy_refusals(random: &mut Random) -> Script {
     let mut script = Script::new("energy, causes");
     for causes in 0..8 {
-        let curves = good_curves(random);
-        script.curves(&curves);
-        let mut directions = [good_direction(random), good_direction(random)];
-        if causes & 1 != 0 {
-            directions[random.below(2)].0[random.below(3)] =
-                random.pick(&[1_001, MAX, 0x8000_0000]);
+        for rate in RATES {
+            let curves = good_curves(random);
+            script.curves(&curves);
+            let mut directions = [good_direction(random), good_direction(random)];
+            if causes & 1 != 0 {
+                directions[random.below(2)].0[random.below(3)] =
+                    random.pick(&[1_001, MAX, 0x8000_0000]);
+            }
+            if causes & 2 != 0 {
+                script.curve(random.below(3), &broken_curve(random));
+            }
+            if causes & 4 != 0 {
+                script.read_all(&bad_readings(random, rate));
+            } else {
+                script.read(random.pick(&corners(&curves)), rate.period());
+            }
+            script.energy(&directions[0], &directions[1]);
         }
-        if causes & 2 != 0 {
-            script.curve(random.below(3), &broken_curve(random));
-        }
-        if causes & 4 != 0 {
-            script.read_all(&bad_readings(random, PERIOD));
-        } else {
-            script.read(random.pick(&corners(&curves)), PERIOD);
-        }
-        script.energy(&directions[0], &directions[1]);
     }
+    script
+}
+
+/// Readings at two a second, and the same at twenty, each ten times or all of them ten times over: the same bounds, and a
+/// period closed with them is the same.
+pub fn both_rates(random: &mut Random) -> Script {
+    let mut script = Script::new("both rates");
+    let curves = good_curves(random);
+    script.curves(&curves);
+    let terms = good_terms(random);
+    let (size, first) = good_size(random, &terms);
+    script.open(&terms, size, first);
+    let once = good_readings(random, Weather::Any, &curves, RATES[0], FEW_STEPS);
+    let times = RATES[1].period() / RATES[0].period();
+    let each: Vec<u16> = once.iter().flat_map(|&r| vec![r; times]).collect();
+    let over = once.repeat(times);
+    let (low, high) = script.record.bounds(&once);
+    let p = good_purchase(random, &script.record);
+    let (delivered, taken) = (random.within(0, low + 1), random.within(0, high + 1));
+    let outcomes = [&once, &each, &over].map(|readings| {
+        script.read_all(readings);
+        let energy = script.energy(&terms.low, &terms.high);
+        script.open(&terms, size, first);
+        script.read_all(readings);
+        let number = script.close(p, delivered, taken);
+        (energy, number, script.record.clone())
+    });
+    assert!(outcomes.iter().all(|outcome| *outcome == outcomes[0]));
     script
 }
 
@@ -323,49 +504,88 @@ fn parts(script: &mut Script) {
     }
 }
 
-/// A bad reading at the ends of each period, and each count beside 28,800.
+/// Each count of `counts` handed to each call that asks for a period's or a block's.
+pub fn count_edges(runs: &mut Runs, tally: &mut Tally) {
+    let terms = Terms {
+        low: Direction([0, 0, 100]),
+        high: Direction::default(),
+        export_limit: 100_000,
+        import_limit: 40_000,
+    };
+    for count in counts() {
+        let mut script = Script::new("counts");
+        script.curves(&[containment(), regulation(), regulation()]);
+        script.open(&terms, 100_000, 100_000);
+        script.read(49_500, count);
+        script.block();
+        parts(&mut script);
+        script.clear();
+        script.read(49_500, count);
+        script.energy(&terms.low, &terms.high);
+        script.read(49_500, count);
+        script.close(0, 50_000, 0);
+        script.read(49_500, count);
+        script.block();
+        runs.add(script, tally);
+    }
+}
+
+const BLOCK_EDGES: &str = "block, edges";
+
+/// A block at each rate whose periods differ in their first and last readings; then bad readings at both sides of a period's
+/// end, and one at the ends of each period and of its tenths, and where a period or a block would end at the other rate.
 pub fn block_edges(runs: &mut Runs, tally: &mut Tally) {
-    const TOPIC: &str = "block, edges";
-    for count in [0, 1, PERIOD, BLOCK - 1, BLOCK, BLOCK + 1] {
-        let mut script = Script::new(TOPIC);
-        script.read(50_000, count);
+    for rate in RATES {
+        let period = rate.period();
+        let mut script = Script::new(BLOCK_EDGES);
+        for i in 0..8 {
+            script.read(49_000 + i, 1);
+            script.read(50_000, period - 2);
+            script.read(51_000 + i, 1);
+        }
         script.block();
         parts(&mut script);
         runs.add(script, tally);
-    }
-    for value in [46_999, 47_000, 53_000, 53_001] {
-        for period in 0..8 {
-            for place in [0, 1, PERIOD - 2, PERIOD - 1] {
-                let mut script = Script::new(TOPIC);
-                let before = period * PERIOD + place;
-                script.read(50_000, before);
-                script.read(value, 1);
-                script.read(50_000, BLOCK - 1 - before);
-                script.block();
-                script.part(period as Int + 1);
-                runs.add(script, tally);
+        for end in (1..8).map(|i| i * period) {
+            runs.add(block_with(rate, end - 1, 46_999, 2), tally);
+        }
+        let mut places: Vec<usize> = good_counts().flat_map(|n| [n - 1, n]).collect();
+        places.extend((0..8).flat_map(|i| ends(period).map(|place| i * period + place)));
+        places.retain(|&at| at < rate.block());
+        for value in [46_999, 47_000, 53_000, 53_001] {
+            for &at in &places {
+                runs.add(block_with(rate, at, value, 1), tally);
             }
         }
     }
 }
 
+/// A block that has `count` readings of `value` from `at` on, counted from 0.
+fn block_with(rate: Rate, at: usize, value: u16, count: usize) -> Script {
+    let mut script = Script::new(BLOCK_EDGES);
+    script.read(50_000, at);
+    script.read(value, count);
+    script.read(50_000, rate.block() - at - count);
+    script.block();
+    script.part((at / rate.period()) as Int + 1);
+    script
+}
+
 pub fn block(random: &mut Random) -> Script {
     let mut script = Script::new("block");
     let curves = good_curves(random);
+    let rate = random.pick(&RATES);
     let mut readings = Vec::new();
     for _ in 0..8 {
-        let mut period = good_readings(random, Weather::Any, &curves, PERIOD);
-        if period.chunk_by(|a, b| a == b).count() > 400 {
-            period = vec![random.between(47_000, 53_000) as u16; PERIOD];
-        }
+        let period = good_readings(random, Weather::Any, &curves, rate, FEW_STEPS);
         readings.extend(period);
     }
     for _ in 0..random.below(4) {
-        let at = random.within(0, BLOCK as Int - 1) as usize;
+        let at = random.within(0, rate.block() as Int - 1) as usize;
         readings[at] = random.pick(&BAD_READINGS);
     }
     if random.once_in(8) {
-        readings.resize(random.pick(&[BLOCK - 1, BLOCK + 1]), 50_000);
+        readings.resize(random.pick(&[rate.block() - 1, rate.block() + 1]), 50_000);
     }
     script.read_all(&readings);
     script.block();
@@ -531,7 +751,8 @@ fn refused_closing(random: &mut Random, script: &mut Script, readings: &[u16]) {
     };
     let (low, high) = record.bounds(readings);
     if causes & 2 != 0 {
-        script.read_all(&bad_readings(random, PERIOD));
+        let rate = random.pick(&RATES);
+        script.read_all(&bad_readings(random, rate));
     } else {
         script.read_all(readings);
     }
@@ -576,7 +797,7 @@ fn closing(random: &mut Random, script: &mut Script, readings: &[u16]) {
     }
 }
 
-/// A whole list: opening, eight closings with other calls in between, the ninth.
+/// A whole list: opening, eight closings at either rate with other calls in between, the ninth.
 pub fn list(random: &mut Random) -> Script {
     let mut script = Script::new("ledger list");
     let curves = good_curves(random);
@@ -596,7 +817,8 @@ pub fn list(random: &mut Random) -> Script {
         } else {
             weather
         };
-        let readings = good_readings(random, weather, &curves, PERIOD);
+        let rate = random.pick(&RATES);
+        let readings = good_readings(random, weather, &curves, rate, STEPS);
         if random.once_in(2) {
             purchases(&mut script);
         }
@@ -608,6 +830,8 @@ pub fn list(random: &mut Random) -> Script {
             refused_closing(random, &mut script, &readings);
         }
         closing(random, &mut script, &readings);
+        // The unit passes, which is part of the record rule.
+        assert!(script.record.good());
     }
     after_the_eighth(random, &mut script);
     script
@@ -618,8 +842,10 @@ fn after_the_eighth(random: &mut Random, script: &mut Script) {
     script.propose();
     let p = any_purchase(random, &script.record);
     script.check(p.clamp(I64[0], I64[1]));
-    script.read(50_000, PERIOD);
-    script.close(0, 0, 0);
+    for rate in RATES {
+        script.read(50_000, rate.period());
+        script.close(0, 0, 0);
+    }
     script.close(I64[1], -1, I64[1]);
 }
 
@@ -788,7 +1014,8 @@ pub fn made_up(random: &mut Random) -> Script {
         }
     }
     if good.closed < 8 {
-        let readings = good_readings(random, Weather::Any, &curves, PERIOD);
+        let rate = random.pick(&RATES);
+        let readings = good_readings(random, Weather::Any, &curves, rate, STEPS);
         refused_closing(random, &mut script, &readings);
         closing(random, &mut script, &readings);
         script.propose();
@@ -812,10 +1039,11 @@ pub fn broken_closings(random: &mut Random) -> Script {
             continue;
         }
         script.make_up(&wanted);
+        let rate = random.pick(&RATES);
         if random.once_in(3) {
-            script.read_all(&bad_readings(random, PERIOD));
+            script.read_all(&bad_readings(random, rate));
         } else {
-            script.read(random.pick(&corners(&curves)), PERIOD);
+            script.read(random.pick(&corners(&curves)), rate.period());
         }
         let p = any_purchase(random, &script.record);
         script.close(
@@ -833,8 +1061,10 @@ pub fn blank_record(random: &mut Random) -> Script {
     let mut script = Script::new("blank record");
     script.propose();
     script.check(0);
-    script.read(50_000, PERIOD);
-    script.close(0, 0, 0);
+    for rate in RATES {
+        script.read(50_000, rate.period());
+        script.close(0, 0, 0);
+    }
     for k in places() {
         script.put(k, random.pick(&[0, 1, 8, 100_000]));
         script.check(0);
@@ -887,7 +1117,9 @@ pub fn malformed(runs: &mut Runs, tally: &mut Tally) {
         "read -1 1\n",
         "read 50000\n",
         "read 50000 -1\n",
-        "read 50000 28802\n",
+        "read 50000 288002\n",
+        "read 50000 4294967296\n",
+        "read 50000 4294970896\n",
         "put 0 4294967296\n",
         "put 0 -1\n",
         "put 8 0\n",
@@ -911,6 +1143,32 @@ pub fn malformed(runs: &mut Runs, tally: &mut Tally) {
         let mut script = Script::new("format");
         script.check(-1);
         script.malformed(&format!("{text}check 0\n"));
+        runs.alone(script, tally);
+    }
+    // Runs up to the most readings, some of more than 16 bits, and past it.
+    for before in [
+        0, 1, 28_801, 28_802, 65_535, 65_536, 65_537, 131_072, 288_000,
+    ] {
+        let mut script = Script::new("format");
+        script.read(50_000, before);
+        script.read(46_999, MOST_READINGS - 1 - before);
+        script.block();
+        script.read(46_999, 1);
+        script.block();
+        script.read(46_999, 0);
+        script.malformed("read 50000 1\ncheck 0\n");
+        runs.alone(script, tally);
+    }
+    for (before, more) in [
+        (1, MOST_READINGS),
+        (MOST_READINGS, MOST_READINGS),
+        (144_001, 144_001),
+        (65_536, 222_466),
+        (259_201, 28_801),
+    ] {
+        let mut script = Script::new("format");
+        script.read(50_000, before);
+        script.malformed(&format!("read 50000 {more}\ncheck 0\n"));
         runs.alone(script, tally);
     }
     for length in [GREATEST_INPUT - 1, GREATEST_INPUT, GREATEST_INPUT + 1] {
