@@ -3,6 +3,7 @@
 //!
 //! `compare SEED ROUNDS LEDGER_TRACE`, from the repository's root. It stops at the first difference with exit status 1.
 
+mod day;
 mod host;
 mod host_cases;
 mod model;
@@ -28,6 +29,7 @@ fn main() {
     let runs = &mut Runs::new(program.clone());
 
     papers::compare(runs, tally);
+    day::compare(runs, tally);
     host_cases::damaged_reports(tally);
     trace_cases::energy_edges(random, runs, tally);
     trace_cases::count_edges(runs, tally);

@@ -23,7 +23,7 @@ struct Line {
 /// A list of calls as text, beside what the model answers to each.
 pub struct Script {
     topic: &'static str,
-    text: String,
+    pub text: String,
     lines: Vec<Line>,
     curves: [Curve; 3],
     pub record: Record,
@@ -35,17 +35,21 @@ fn join(numbers: &[Int]) -> String {
 }
 
 impl Script {
-    /// Starts from no readings, no points and the blank record of a refused opening, so that the text means the same after
-    /// any other.
-    pub fn new(topic: &'static str) -> Script {
-        let mut script = Script {
+    /// No readings, no points and the blank record of a refused opening, as ledger_trace starts.
+    pub fn empty(topic: &'static str) -> Script {
+        Script {
             topic,
             text: String::new(),
             lines: Vec::new(),
             curves: Default::default(),
             record: Record::default(),
             readings: Vec::new(),
-        };
+        }
+    }
+
+    /// Starts from the same, made by lines of its own, so that the text means the same after any other.
+    pub fn new(topic: &'static str) -> Script {
+        let mut script = Script::empty(topic);
         script.clear();
         for service in 0..3 {
             script.curve(service, &Curve::default());
@@ -90,6 +94,18 @@ impl Script {
     /// The model's last line is the one that a paper prints.
     pub fn printed(&self, line: &str) {
         printed(&self.text, line, &self.lines.last().unwrap().text);
+    }
+
+    /// Each line of the text, with the answers to it.
+    pub fn answers(&self) -> Vec<(&str, Vec<&str>)> {
+        let mut answers = Vec::new();
+        let mut fed = 0;
+        for line in self.text.split_inclusive('\n') {
+            fed += line.len();
+            let given = self.lines.iter().filter(|l| l.fed == fed);
+            answers.push((line.trim_end(), given.map(|l| l.text.as_str()).collect()));
+        }
+        answers
     }
 
     /// The services are counted from 0 here, from 1 in the text.
