@@ -1,4 +1,4 @@
-// The two rates at which plants file readings: every count of readings, and the divisor of a period's sum, comes from here.
+// The two rates at which plants file readings: every count of readings comes from here.
 ghost use mathlib.Core.Path.{_≡_};
 ghost use Rattle.energy.specs.Rate.{isPeriodCount, isBlockCount, partLength};
 
