@@ -1,7 +1,7 @@
 -- Paper 02, No. 1: readings each repeated ten times have the same bounds, `ten-times`. Assumes nothing.
 use mathlib.Core.Path.{_≡_, refl, ap, _∙_}
-use mathlib.Core.Bool.{Bool, true, false, _&&_}
-use mathlib.Core.List.{List, [], _∷_, _++_, map}
+use mathlib.Core.Bool.{Bool, _&&_, and-self-left}
+use mathlib.Core.List.{List, [], _∷_, _++_, map, flatMap}
 use Prim.Native.Nat.{ℕ, zero, suc, _+_, _*_, _<_}
 use native.Mathlib.Omega.{arith}
 use lib.ListN.{length, replicate, length-append, length-replicate}
@@ -23,21 +23,17 @@ module _ (r : ℕ) (rs : List ℕ) where
   every-before : (holds : ℕ → Bool) (n : ℕ) → every holds (replicate (suc n) r ++ rs) ≡ holds r && every holds rs
   unfolding every
   every-before holds zero = refl
-  every-before holds (suc n) = ap (λ (b : Bool). holds r && b) (every-before holds n) ∙ twice (holds r)
-    where
-      twice : (b : Bool) → b && (b && every holds rs) ≡ b && every holds rs
-      twice true = refl
-      twice false = refl
+  every-before holds (suc n) = ap (λ (b : Bool). holds r && b) (every-before holds n) ∙ and-self-left (holds r) (every holds rs)
 
 -- ---- each reading of a list n times
 module _ (n : ℕ) where
   repeated-length : (rs : List ℕ) → length (repeated n rs) ≡ n * length rs
-  unfolding repeated
+  unfolding flatMap
   repeated-length [] = omega arith
   repeated-length (r ∷ rs) = simp (length-append, length-replicate) (omega (arith, repeated-length rs))
 
   repeated-sum : (f : ℕ → ℕ) (rs : List ℕ) → sum (map f (repeated n rs)) ≡ n * sum (map f rs)
-  unfolding repeated sum
+  unfolding flatMap sum
   repeated-sum f [] = omega arith
   repeated-sum f (r ∷ rs) = sum-before r (repeated n rs) f n ∙ omega (arith, repeated-sum f rs)
 
@@ -50,7 +46,7 @@ module _ (n : ℕ) where
       (up-scaled n (responseSum deviation q cs rs) (divisor (length rs)) h)
 
 repeated-every : (holds : ℕ → Bool) (n : ℕ) (rs : List ℕ) → every holds (repeated (suc n) rs) ≡ every holds rs
-unfolding repeated every
+unfolding flatMap every
 repeated-every holds n [] = refl
 repeated-every holds n (r ∷ rs) = every-before r (repeated (suc n) rs) holds n ∙ ap (λ (b : Bool). holds r && b) (repeated-every holds n rs)
 
