@@ -68,6 +68,45 @@ int64_t soe_terms(uint32_t low_dc, uint32_t low_dm, uint32_t low_dr,
 int64_t soe_quantity(uint32_t direction, int64_t mil, int64_t sil, int64_t sel, int64_t mel, int64_t ol,
                      const uint8_t *points, size_t points_length, uint32_t limit);
 
+/* The bytes of a machine that follows one direction's start and cease instructions, and its states. */
+#define SOE_MACHINE 32
+#define SOE_IDLE 0
+#define SOE_START_PENDING 1
+#define SOE_DELIVERING 2
+#define SOE_CEASE_PENDING 3
+
+/* The events. */
+#define SOE_START 1
+#define SOE_CEASE 2
+#define SOE_ACCEPT 3
+#define SOE_REJECT 4
+#define SOE_TICK 5
+
+/* Follows an event of one direction's start and cease instructions. The host keeps the machine, 32 bytes, between the calls: 32
+ * zero bytes are a fresh one. Its fields are little-endian unsigned numbers: from byte 0 the state and from byte 4 accepted (0 or
+ * 1), of 32 bits; from byte 8 the time of the last event, from byte 16 the issue and from byte 24 the start or cease time of the
+ * pending instruction, of 64 bits. While nothing is pending, accepted, issue and start or cease time are 0.
+ *
+ * Times are whole seconds, any number. `time` is that of the event, which for a start or cease is its issue; `at` is the start or
+ * cease time; a start has the submitted limit, and whether the unit is available and armed (1 yes, 0 no). What an event does not
+ * have is not looked at: hand in 0.
+ *
+ * Before the event, and again after it, what is due by its time happens: an instruction unanswered more than 120 after its issue
+ * is rejected, which is idle for a start and delivering for a cease; an accepted start delivers from its start time, and an
+ * accepted cease turns idle at its cease time. A host that wants the state at a time hands in a tick.
+ *
+ * 0: the event was carried out, and the bytes are the machine afterwards.
+ *
+ * Refusals, all 32 bytes being as they were, and nothing that was due being done:
+ *   -13  the machine has another length than 32 or its bytes are no machine; the event is not 1 to 5; or a start's available or
+ *        armed is neither 0 nor 1
+ *   -15  the event is earlier than the last one
+ *   -16  the start or cease time is under 120 after its issue
+ *   -17  a start of a direction that is not idle, or with limit 0, or of a unit that is not available or not armed; a cease of a
+ *        direction that is not delivering; or an answer where no instruction is unanswered */
+int64_t soe_instruction(uint8_t *machine, size_t machine_length, uint32_t event, uint64_t time, uint64_t at,
+                        uint32_t limit, uint32_t available, uint32_t armed);
+
 #ifdef __cplusplus
 }
 #endif

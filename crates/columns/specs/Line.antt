@@ -2,17 +2,12 @@
 use mathlib.Core.Bool.{Bool, false, cond}
 use mathlib.Core.List.{List, [], _∷_, _++_}
 use Prim.Native.Nat.{ℕ, _+_, _/_, _%_}
-use lib.Dec.{leb, ltb}
+use lib.Dec.{ltb}
 use lib.IntN.{pos}
-use lib.ListN.{length, take, drop}
-use lib.Seq.{paste}
+use lib.ListN.{take, drop}
 use Rattle.columns.specs.Number.{text, number}
 use Rattle.columns.specs.declared.Column.{Column}
 use Rattle.columns.specs.declared.Field.{Field}
-
--- a text in the columns of a line from `at` on; a line that has not all of them stays as it was
-unfoldable pub placed : ℕ → List ℕ → List ℕ → List ℕ
-placed at t line = cond (leb (at + length t) (length line)) (paste line at t (length t)) line
 
 -- a refusal prints its number in nine columns and a line feed
 unfoldable pub numberLine : ℕ → List ℕ

@@ -3,8 +3,9 @@ ghost use mathlib.Core.Path.{_≡_};
 ghost use Prim.Native.Nat.{_<_};
 ghost use lib.IntN.{pos};
 ghost use lib.ListN.{length, take};
+ghost use Rattle.common.specs.Lists.{placed};
 ghost use Rattle.columns.specs.Number as Number;
-ghost use Rattle.columns.specs.Line.{columnOf, placed, numberLine, numberAt};
+ghost use Rattle.columns.specs.Line.{columnOf, numberLine, numberAt};
 
 // What columns hold: blanks only, a number, or neither.
 pub enum Field {

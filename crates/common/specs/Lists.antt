@@ -1,7 +1,10 @@
--- Sums and tests over lists. Assumes nothing.
-use mathlib.Core.Bool.{Bool, true, false, _&&_, _||_}
+-- Sums and tests over lists, and entries placed in a list. Assumes nothing.
+use mathlib.Core.Bool.{Bool, true, false, cond, _&&_, _||_}
 use mathlib.Core.List.{List, [], _∷_}
 use Prim.Native.Nat.{ℕ, _+_}
+use lib.Dec.{leb}
+use lib.ListN.{length}
+use lib.Seq.{paste}
 
 unfoldable pub sum : List ℕ → ℕ
 sum [] = 0
@@ -19,3 +22,7 @@ someEntry holds (x ∷ xs) = holds x || someEntry holds xs
 unfoldable pub chain : {A : Type 0} → (A → Bool) → (A → A → Bool) → A → List A → Bool
 chain holds linked x [] = holds x
 chain holds linked x (y ∷ ys) = holds x && linked x y && chain holds linked y ys
+
+-- the entries from `at` on replaced by those of `t`; a list that has not all of these places stays as it was
+unfoldable pub placed : ℕ → List ℕ → List ℕ → List ℕ
+placed at t list = cond (leb (at + length t) (length list)) (paste list at t (length t)) list

@@ -1,3 +1,6 @@
 pub mod Arguments
 pub mod Convention
+pub mod EveryCall
+pub mod Instruction
+pub mod MachineBytes
 pub mod Points

@@ -3,20 +3,16 @@ use mathlib.Core.Bool.{_&&_, cond}
 use mathlib.Core.List.{List, [], _∷_, map}
 use Prim.Native.Nat.{ℕ, _+_, _*_, _/_, _%_}
 use lib.Dec.{leb, eqb}
-use lib.ListN.{length, getD}
+use lib.ListN.{length}
 use Rattle.common.specs.Answer.{Answer, refused}
+use Rattle.bytes_at.specs.Numbers.{numberAt}
 use Rattle.capability.specs.declared.Limits.{Limits}
 use Rattle.capability.specs.declared.Point.{Point}
 use Rattle.capability.specs.declared.Points.{Points}
 use Rattle.capability.specs.Capability.{quantityAnswer}
 
--- the number of the four bytes from `at` on
-abbrev pub numberAt : List ℕ → ℕ → ℕ
-numberAt bytes at =
-    getD bytes at 0 + 256 * getD bytes (at + 1) 0 + 65536 * getD bytes (at + 2) 0 + 16777216 * getD bytes (at + 3) 0
-
 abbrev pub pointAt : List ℕ → ℕ → Point
-pointAt bytes i = record { room = numberAt bytes (8 * i); capability = numberAt bytes (8 * i + 4) }
+pointAt bytes i = record { room = numberAt 4 (8 * i) bytes; capability = numberAt 4 (8 * i + 4) bytes }
 
 abbrev pub pointsIn : List ℕ → Points
 pointsIn bytes = record { count = length bytes / 8; points = map (pointAt bytes) (0 ∷ 1 ∷ 2 ∷ 3 ∷ 4 ∷ []) }

@@ -1,0 +1,84 @@
+-- `bytes_at::four_at` meets its contract. Assumes nothing.
+use mathlib.Core.Path.{_≡_}
+use Prim.Native.Nat.{_+_}
+use native.Mathlib.Omega.{arith}
+use denote.Ref.{now}
+use Rattle.bytes_at.proofs.Numbers.{four-is}
+use borrow.Author.Needs.{needs}
+use Rattle.bytes_at.proofs.four_at.Statement.{statement}
+use Rattle.bytes_at.proofs.four_at.Tie as tie
+
+byte-at-requires : tie.Need-byte-at-requires
+byte-at-requires c κs = search needs
+
+add-byte-at : tie.Need-add-byte-at
+add-byte-at c = search needs
+
+byte-at-requires-2 : tie.Need-byte-at-requires-2
+byte-at-requires-2 c κs = search needs
+
+mul-result : tie.Need-mul-result
+mul-result c = search needs
+
+add-result : tie.Need-add-result
+add-result c = search needs
+
+add-byte-at-2 : tie.Need-add-byte-at-2
+add-byte-at-2 c = search needs
+
+byte-at-requires-3 : tie.Need-byte-at-requires-3
+byte-at-requires-3 c κs = search needs
+
+mul-result-2 : tie.Need-mul-result-2
+mul-result-2 c = search needs
+
+add-result-2 : tie.Need-add-result-2
+add-result-2 c = search needs
+
+add-byte-at-3 : tie.Need-add-byte-at-3
+add-byte-at-3 c = search needs
+
+byte-at-requires-4 : tie.Need-byte-at-requires-4
+byte-at-requires-4 c κs = search needs
+
+mul-result-3 : tie.Need-mul-result-3
+mul-result-3 c = search needs
+
+add-result-3 : tie.Need-add-result-3
+add-result-3 c = search needs
+
+returns : tie.Need-returns
+returns c =
+    let three = c .before in
+    let two = three .before in
+    let one = two .before in
+    let a = one .before .before .args in
+    let at1 : a .at + (a .i + 1) ≡ a .at + a .i + 1 = omega arith in
+    let at2 : a .at + (a .i + 2) ≡ a .at + a .i + 2 = omega arith in
+    let at3 : a .at + (a .i + 3) ≡ a .at + a .i + 3 = omega arith in
+    let b = now (a .bytes) in
+    let e1 = rw at1 at (two .byte-at2 .ensures .0) in
+    let e2 = rw at2 at (three .byte-at3 .ensures .0) in
+    let e3 = rw at3 at (c .byte-at4 .ensures .0) in (
+      omega (arith, four-is (a .at + a .i) b, one .byte-at .ensures .0, e1, e2, e3),
+      omega (arith, one .byte-at .ensures .1, two .byte-at2 .ensures .1, three .byte-at3 .ensures .1, c .byte-at4 .ensures .1),
+    )
+
+pub four-at-spec : {M : Type 1} → statement M
+four-at-spec =
+    tie.close
+    (tie.spec
+    byte-at-requires
+    add-byte-at
+    byte-at-requires-2
+    mul-result
+    add-result
+    add-byte-at-2
+    byte-at-requires-3
+    mul-result-2
+    add-result-2
+    add-byte-at-3
+    byte-at-requires-4
+    mul-result-3
+    add-result-3
+    returns)

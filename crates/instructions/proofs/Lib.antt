@@ -1,0 +1,5 @@
+pub mod Carried
+pub mod Due
+pub mod EveryList
+pub mod Steps
+pub mod Times
