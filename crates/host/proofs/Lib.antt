@@ -1,2 +1,5 @@
+pub mod EveryCall
+pub mod Instructing
+pub mod MachineBytes
 pub mod Numbers
 pub mod Quantities

@@ -91,9 +91,8 @@ pub record TimesFit (f : Fields) : Type 0 where
   pub at : f .at < 2 ^ 64
 
 -- reading what was written gives the machine back
-pub record ReadBack (m : Machine) : Type 0 where
-  pub rule : machineRule (machineBytes m) ≡ true
-  pub same : machineIn (machineBytes m) ≡ m
+abbrev pub ReadBack : Machine → Type 0
+ReadBack m = TimesFit (fieldsOf m) → (machineRule (machineBytes m) ≡ true) × (machineIn (machineBytes m) ≡ m)
 
 -- bytes that are a machine are the bytes of that machine
 abbrev pub WrittenBack : List ℕ → Type 0

@@ -29,7 +29,7 @@ rejected-rests (StartPending p) = inl refl
 rejected-rests Delivering = inr refl
 rejected-rests (CeasePending p) = inr refl
 
-pub effective-rests : (s : State) → Rests (effective s)
+effective-rests : (s : State) → Rests (effective s)
 effective-rests Idle = inl refl
 effective-rests (StartPending p) = inr refl
 effective-rests Delivering = inr refl
@@ -113,14 +113,14 @@ module _ (t : ℕ) where
   due Delivering = still (rests-stays t Delivering (inr refl)) tt
   due (CeasePending p) = pending p (CeasePending p) (inr refl)
 
-  -- what holds of a state, and of it after a rejection or an effect, holds after what is due
-  pub by-due : (P : State → Type 0) (s : State) → P s → P (rejected s) → P (effective s) → P (dueBy t s)
-  by-due P s x y z = by (due s)
+  -- what holds of a state, and of every state without a pending instruction, holds after what is due
+  pub by-due : (P : State → Type 0) → ((r : State) → Rests r → P r) → (s : State) → P s → P (dueBy t s)
+  by-due P rest s x = by (due s)
     where
       by : Due t s → P (dueBy t s)
       by (still e n) = rw e x
-      by (lapsed p q a h e) = rw e y
-      by (come p q a h e) = rw e z
+      by (lapsed p q a h e) = rw e (rest (rejected s) (rejected-rests s))
+      by (come p q a h e) = rw e (rest (effective s) (effective-rests s))
 
   -- nothing is due after it
   pub nothing-due : (s : State) → NothingDue t (dueBy t s)

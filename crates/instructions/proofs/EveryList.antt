@@ -16,9 +16,9 @@ use Rattle.instructions.specs.declared.Machine.{Machine}
 use Rattle.instructions.specs.declared.Action.{Action}
 use Rattle.instructions.specs.declared.Action.the-variants.{Start, Cease, Accept, Reject, Tick}
 use Rattle.instructions.specs.declared.Event.{Event}
-use Rattle.instructions.specs.Instructions.{fresh, issued, acceptance, rejected, effective, late, dueBy, idle, suits, acted, moved}
+use Rattle.instructions.specs.Instructions.{fresh, issued, acceptance, rejected, late, dueBy, idle, suits, acted, moved}
 use Rattle.instructions.specs.EveryList.{run, isTick, carriedOut, NothingDue, delivers, isAcceptance, onAcceptedStart, AfterEveryList}
-use Rattle.instructions.proofs.Due.{Pends, rejected-rests, rests-stays, unanswered-by, accepted-by, by-due, nothing-due, due-twice}
+use Rattle.instructions.proofs.Due.{Pends, Rests, rejected-rests, rests-stays, unanswered-by, accepted-by, by-due, nothing-due, due-twice}
 use Rattle.instructions.proofs.Steps.{noted, after-all, never-falls, tick-carried, tick-adds-nothing}
 use Rattle.instructions.proofs.Carried.{other-same, start-accepted, cease-accepted}
 
@@ -47,22 +47,14 @@ pub record Known (h : List Event) (t : ℕ) (s : State) : Type 0 where
   pub by-later : (u : ℕ) → t ≤ u → delivers (dueBy u s) ≡ onAcceptedStart u h
 
 -- time passes, and what is due happens
-rejected-waiting : (h : List Event) (s : State) → Waiting h (rejected s)
-rejected-waiting h Idle = tt
-rejected-waiting h (StartPending p) = tt
-rejected-waiting h Delivering = tt
-rejected-waiting h (CeasePending p) = tt
-
-effective-waiting : (h : List Event) (s : State) → Waiting h (effective s)
-effective-waiting h Idle = tt
-effective-waiting h (StartPending p) = tt
-effective-waiting h Delivering = tt
-effective-waiting h (CeasePending p) = tt
+rests-waiting : (h : List Event) (s : State) → Rests s → Waiting h s
+rests-waiting h s (inl e) = rw e tt
+rests-waiting h s (inr e) = rw e tt
 
 due-known : (h : List Event) (t u : ℕ) → t ≤ u → (s : State) → Known h t s → Known h u (dueBy u s)
 due-known h t u l s k =
     record {
-      waiting = by-due u (Waiting h) s (k .waiting) (rejected-waiting h s) (effective-waiting h s);
+      waiting = by-due u (Waiting h) (rests-waiting h) s (k .waiting);
       by-later = λ v m. rw (due-twice u v m s) (k .by-later v (omega arith));
     }
 
@@ -103,10 +95,10 @@ module _ (h : List Event) (t : ℕ) where
   -- no acceptance: the unit delivers as it would without it
   other-known : (a : Action) (s c : State) → isAcceptance a ≡ false → isTick a ≡ false → Known h t s → Waiting (happens a) c
       → ((u : ℕ) → delivers (dueBy u c) ≡ delivers (dueBy u s)) → Known (happens a) t c
-  other-known a s c other no k w same =
+  other-known a s c other listed k w same =
       record {
         waiting = w;
-        by-later = λ u l. rw no (same u ∙ k .by-later u l ∙ sym (other-same u (record { time = t; action = a }) other h));
+        by-later = λ u l. rw listed (same u ∙ k .by-later u l ∙ sym (other-same u (record { time = t; action = a }) other h));
       }
 
   module _ (p : Pending) (a : p .accepted ≡ false) (within : t ≤ p .issue + 120) where
@@ -160,7 +152,7 @@ module _ (h : List Event) (t : ℕ) where
 
   rejected-known : (p : Pending) (s : State) → Pends p s → p .accepted ≡ false → Known h t s → Known (happens Reject) t (rejected s)
   rejected-known p s q a k =
-      other-known Reject s (rejected s) refl refl k (rejected-waiting (happens Reject) s)
+      other-known Reject s (rejected s) refl refl k (rests-waiting (happens Reject) (rejected s) (rejected-rests s))
       (λ u. ap delivers (rests-stays u (rejected s) (rejected-rests s)) ∙ rejected-delivers s ∙ sym (unanswered-same u p s q a))
 
   started : (at limit : ℕ) (available armed : Bool) (s : State) → Known h t s → idle s ≡ true
@@ -212,10 +204,10 @@ keeps h m e k later suited =
     }
 
 pub kept : (events : List Event) → Kept (carriedOut fresh events) (run fresh events)
+unfolding onAcceptedStart
 kept events = after-all Kept keeps events [] fresh (record { known = at-first; still = rests-stays 0 Idle (inl refl) })
   where
     at-first : Known [] 0 Idle
-    unfolding onAcceptedStart
     at-first = record { waiting = tt; by-later = λ u l. ap delivers (rests-stays u Idle (inl refl)) }
 
 pub after-every-list : (events : List Event) → AfterEveryList events

@@ -1,55 +1,74 @@
--- `bytes_at::put_at` meets its contract: the part comes back in its place. Assumes nothing.
-use mathlib.Core.Path.{_≡_, sym}
-use Prim.Native.Nat.{ℕ, _+_, _<_}
+-- `bytes_at::put_at` meets its contract. Assumes nothing.
+use Prim.Native.Nat.{_-_}
 use native.Mathlib.Omega.{arith}
 use borrow.Author.Needs.{needs}
-use lib.ListN.{length}
-use Rattle.common.specs.Lists.{placed}
-use Rattle.common.proofs.Placing.{stays, comes-back}
-use Rattle.bytes_at.specs.Number.{inColumns}
-use Rattle.bytes_at.proofs.Columns.{right-length}
+use Rattle.bytes_at.proofs.Writing.{short, Left, begin, step, done}
 use Rattle.bytes_at.proofs.put_at.Statement.{statement}
 use Rattle.bytes_at.proofs.put_at.Tie as tie
 
--- the line has not all of the bytes_at
-short : (s : tie.Start) → length (s .args .line .now) < s .args .at + s .args .width
-    → s .args .line .now ≡ placed (s .args .at) (inColumns (s .args .width) (s .args .minus) (s .args .n)) (s .args .line .now)
-short s h = sym (stays (s .args .at) (s .args .width) _ (s .args .line .now) (right-length (s .args .width) _) h)
+abbrev Inv-loop : tie.InvT-loop
+Inv-loop bytes₀ at width n i₀ rest₀ bytes i rest = Left bytes₀ at width n bytes i rest
 
-returns : tie.Need-returns
-returns c = short (c .before .before) (omega arith)
+abbrev μ-loop : tie.MeasureT-loop
+μ-loop bytes₀ at width n i₀ rest₀ bytes i rest = width - i
 
-sub-if2 : tie.Need-sub-if2
+returns : tie.Need-returns Inv-loop μ-loop
+returns c = let a = c .before .args in short (a .bytes .now) (a .at) (a .width) (a .n) (omega arith)
+
+sub-if2 : tie.Need-sub-if2 Inv-loop μ-loop
 sub-if2 c = search needs
 
-returns-2 : tie.Need-returns-2
-returns-2 c = short (c .before .before .before) (omega arith)
+returns-2 : tie.Need-returns-2 Inv-loop μ-loop
+returns-2 c = let a = c .before .before .args in short (a .bytes .now) (a .at) (a .width) (a .n) (omega arith)
 
-add-put : tie.Need-add-put
-add-put c = search needs
+loop-holds : tie.Need-loop-holds Inv-loop μ-loop
+loop-holds c = let a = c .before .before .args in begin (a .bytes .now) (a .at) (a .width) (a .n)
 
-sub-put : tie.Need-sub-put
-sub-put c = search needs
+cast-bytes : tie.Need-cast-bytes Inv-loop μ-loop
+cast-bytes c = search needs
 
-part-put-start : tie.Need-part-put-start
-part-put-start c = search needs
+add-bytes : tie.Need-add-bytes Inv-loop μ-loop
+add-bytes c = omega (arith, c .before .loop .inv .long)
 
-part-put-end : tie.Need-part-put-end
-part-put-end c = search needs
+slice-write-bytes : tie.Need-slice-write-bytes Inv-loop μ-loop
+slice-write-bytes c = omega (arith, c .before .loop .inv .long)
 
-put-requires : tie.Need-put-requires
-put-requires c κs = search needs
+add-i : tie.Need-add-i Inv-loop μ-loop
+add-i c = omega (arith, c .before .loop .inv .long)
 
-same-length : tie.Need-same-length
-same-length c = search needs
+loop-less : tie.Need-loop-less Inv-loop μ-loop
+loop-less c = omega arith
 
-returns-3 : tie.Need-returns-3
+loop-again : tie.Need-loop-again Inv-loop μ-loop
+loop-again c =
+    let l = c .before .loop in
+    let a = c .before .before .before .before .args in
+    step (a .bytes .now) (a .at) (a .width) (a .n) (l .bytes) (l .i) (l .rest) (l .inv) (c .loop-test .taken) (omega arith)
+
+same-length : tie.Need-same-length Inv-loop μ-loop
+same-length c = c .before .loop .inv .long
+
+returns-3 : tie.Need-returns-3 Inv-loop μ-loop
 returns-3 c =
-    let e = c .before .before .before .before in
-    let a = e .before .before .before .args in
-    comes-back (a .line .now) _ (a .at) (a .width) (λ (k : ℕ). inColumns k (a .minus) (a .n)) (λ k. right-length k _) (omega arith) (c .before .before .put .ensures)
+    let l = c .before .loop in
+    let a = c .before .before .before .before .args in
+    done (a .bytes .now) (a .at) (a .width) (a .n) (l .bytes) (l .i) (l .rest) (l .inv) (c .loop-test .left)
 
 pub put-at-spec : {M : Type 1} → statement M
 put-at-spec =
     tie.close
-    (tie.spec returns sub-if2 returns-2 add-put sub-put part-put-start part-put-end put-requires same-length returns-3)
+    (tie.spec
+    Inv-loop
+    μ-loop
+    returns
+    sub-if2
+    returns-2
+    loop-holds
+    cast-bytes
+    add-bytes
+    slice-write-bytes
+    add-i
+    loop-less
+    loop-again
+    same-length
+    returns-3)
