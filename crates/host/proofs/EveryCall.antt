@@ -23,7 +23,7 @@ use Rattle.instructions.proofs.Steps.{Step, left, done, steps}
 use Rattle.host.specs.MachineBytes.{stateFields, fieldsOf, machineBytes, machineRule, machineIn, TimesFit}
 use Rattle.host.specs.Instruction.{Call, actionOf, isEvent, eventOf, inBytes, instructing, machineAfter}
 use Rattle.host.specs.EveryCall.{timesFit, bytesAfter, eventsOf, BytesFollow}
-use Rattle.host.proofs.Instructing.{no-event, is-followed}
+use Rattle.host.proofs.Instructing.{not-good, is-followed}
 use Rattle.host.proofs.MachineBytes.{machine-back, zeros-fresh}
 
 -- ---- the machine's times stay such that a u64 holds them
@@ -71,8 +71,8 @@ module _ (m : Machine) (f : Fits m) (c : Call) where
       back = machine-back m f
 
       by : (b : Bool) → isEvent c ≡ b → instructing (machineBytes m) c ≡ cond b (inBytes (following m (eventOf c))) (refused 13)
-      by true e = is-followed (machineBytes m) c (back .0) e ∙ ap (λ (n : Machine). inBytes (following n (eventOf c))) (back .1)
-      by false e = no-event (machineBytes m) c e
+      by true e = is-followed (machineBytes m) c (rw (back .0) e) ∙ ap (λ (n : Machine). inBytes (following n (eventOf c))) (back .1)
+      by false e = not-good (machineBytes m) c (rw (back .0) e)
 
   carried-bytes : (a : Answer Machine) → orBlank (machineBytes m) (inBytes a) ≡ machineBytes (orBlank m a)
   carried-bytes (refused number) = refl

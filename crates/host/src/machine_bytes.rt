@@ -68,13 +68,14 @@ fn pending_of(f: Fields) -> Pending
 fn state_of(f: Fields) -> State
     ensures { λ r. ⌜ r ≡ stateOf f ⌝ }
 {
-    if f.state == 0 {
+    let state = f.state;
+    if state == 0 {
         return State::Idle;
     }
-    if f.state == 1 {
+    if state == 1 {
         return State::StartPending(pending_of(f));
     }
-    if f.state == 2 {
+    if state == 2 {
         return State::Delivering;
     }
     State::CeasePending(pending_of(f))

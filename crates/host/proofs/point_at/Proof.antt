@@ -3,31 +3,31 @@ use borrow.Author.Needs.{needs}
 use Rattle.host.proofs.point_at.Statement.{statement}
 use Rattle.host.proofs.point_at.Tie as tie
 
-mul-number-at : tie.Need-mul-number-at
-mul-number-at c = search needs
+mul-u32-at : tie.Need-mul-u32-at
+mul-u32-at c = search needs
 
-number-at-requires : tie.Need-number-at-requires
-number-at-requires c κs = search needs
+u32-at-requires : tie.Need-u32-at-requires
+u32-at-requires c κs = search needs
 
-mul-number-at-2 : tie.Need-mul-number-at-2
-mul-number-at-2 c = search needs
+mul-u32-at-2 : tie.Need-mul-u32-at-2
+mul-u32-at-2 c = search needs
 
-add-number-at : tie.Need-add-number-at
-add-number-at c = search needs
+add-u32-at : tie.Need-add-u32-at
+add-u32-at c = search needs
 
-number-at-requires-2 : tie.Need-number-at-requires-2
-number-at-requires-2 c κs = search needs
+u32-at-requires-2 : tie.Need-u32-at-requires-2
+u32-at-requires-2 c κs = search needs
 
 returns : tie.Need-returns
-returns c = rw (c .before .number-at .ensures, c .number-at2 .ensures)
+returns c = rw (c .before .u32-at .ensures, c .u32-at2 .ensures)
 
 pub point-at-spec : {M : Type 1} → statement M
 point-at-spec =
     tie.close
     (tie.spec
-    mul-number-at
-    number-at-requires
-    mul-number-at-2
-    add-number-at
-    number-at-requires-2
+    mul-u32-at
+    u32-at-requires
+    mul-u32-at-2
+    add-u32-at
+    u32-at-requires-2
     returns)
