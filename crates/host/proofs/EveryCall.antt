@@ -1,6 +1,6 @@
 -- `bytes-follow`: after every list of calls the bytes are those of the machine. Assumes nothing.
 use mathlib.Core.Path.{_≡_, refl, sym, ap, _∙_}
-use mathlib.Core.Bool.{Bool, true, false, cond, _&&_}
+use mathlib.Core.Bool.{Bool, true, false, cond}
 use mathlib.Core.Logic.{inl, inr}
 use mathlib.Core.List.{List, [], _∷_, foldl, foldl-append}
 use Prim.Native.Nat.{ℕ, _<_, _^_}
@@ -13,9 +13,7 @@ use Rattle.common.proofs.Tests.{both-true}
 use Rattle.instructions.specs.declared.State.{State}
 use Rattle.instructions.specs.declared.State.the-variants.{Idle, StartPending, Delivering, CeasePending}
 use Rattle.instructions.specs.declared.Machine.{Machine}
-use Rattle.instructions.specs.declared.Action.{Action}
 use Rattle.instructions.specs.declared.Action.the-variants.{Start, Cease, Accept, Reject, Tick}
-use Rattle.instructions.specs.declared.Event.{Event}
 use Rattle.instructions.specs.Instructions.{fresh, accepted, rejected, dueBy, acted, following}
 use Rattle.instructions.specs.EveryList.{after, run}
 use Rattle.instructions.proofs.Due.{Rests, rejected-rests, by-due}

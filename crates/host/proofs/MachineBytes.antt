@@ -1,5 +1,5 @@
 -- The machine's 32 bytes: reading what was written gives the machine back, and writing what was read the bytes. Assumes nothing.
-use mathlib.Core.Path.{_≡_, refl, sym, _∙_}
+use mathlib.Core.Path.{_≡_, refl, sym}
 use mathlib.Core.Bool.{Bool, true, false, _&&_, _||_}
 use mathlib.Core.List.{List, [], _++_, append-assoc, append-nil}
 use Prim.Native.Nat.{ℕ, _+_, _≤_, _<_, _^_}
@@ -16,7 +16,7 @@ use Rattle.instructions.specs.declared.State.the-variants.{Idle, StartPending, 
 use Rattle.instructions.specs.declared.Machine.{Machine}
 use Rattle.instructions.specs.Instructions.{fresh}
 use Rattle.host.specs.declared.machine_bytes.Fields.{Fields}
-use Rattle.host.specs.MachineBytes.{fieldBytes, fieldsIn, flag, stateFields, fieldsOf, fieldsRule, stateOf, machineOf, machineBytes, machineRule, machineIn, TimesFit, ReadBack, WrittenBack}
+use Rattle.host.specs.MachineBytes.{fieldBytes, fieldsIn, flag, stateFields, fieldsOf, fieldsRule, stateOf, machineOf, machineBytes, TimesFit, ReadBack, WrittenBack}
 
 -- ---- the bytes of five numbers
 module _ (f : Fields) where

@@ -1,7 +1,7 @@
 // The machine of `instructions` as a C host keeps it: five numbers in 32 bytes.
 ghost use mathlib.Core.Path.{_≡_};
 ghost use lib.ListN.{length};
-ghost use Rattle.host.specs.MachineBytes.{fieldBytes, fieldsIn, flag, pendingFields, otherFields, fieldsOf, fieldsRule, pendingOf, stateOf, machineOf};
+ghost use Rattle.host.specs.MachineBytes.{fieldBytes, fieldsIn, pendingFields, otherFields, fieldsOf, fieldsRule, pendingOf, stateOf, machineOf};
 use instructions::Machine;
 use instructions::Pending;
 use instructions::State;

@@ -9,7 +9,7 @@ use mathlib.Core.Bool.{Bool, true, false, not, cond, _&&_, _||_}
 use mathlib.Core.List.{List, [], _∷_, _++_, foldl}
 use Prim.Native.Nat.{ℕ, _+_, _≤_, _<_}
 use lib.Dec.{leb}
-use Rattle.common.specs.Answer.{refused, given, isGiven, orBlank}
+use Rattle.common.specs.Answer.{refused, isGiven, orBlank}
 use Rattle.instructions.specs.declared.Pending.{Pending}
 use Rattle.instructions.specs.declared.State.{State}
 use Rattle.instructions.specs.declared.State.the-variants.{Idle, StartPending, Delivering, CeasePending}

@@ -1,6 +1,6 @@
 -- `host::soe_instruction` meets its contract. Assumes nothing.
 use mathlib.Core.Path.{_≡_, sym, ap, _∙_}
-use mathlib.Core.Bool.{true, _&&_}
+use mathlib.Core.Bool.{_&&_}
 use mathlib.Core.List.{List}
 use Prim.Native.Nat.{ℕ}
 use borrow.Author.Needs.{needs, sfits-of}
@@ -114,7 +114,7 @@ returns-3 c =
     let n = c .before in
     let f = n .before .before in (
       rw (toZ-ofZ {z = c .refusal3 .result} (sfits-of (c .refusal3 .ok)), c .refusal3 .ensures, n .number .ensures, whole f, ← number-same (answerOf (f .follow .result)))
-      (coded-number (inBytes (answerOf (f .follow .result)))),
+          (coded-number (inBytes (answerOf (f .follow .result)))),
       rw (whole f) (sym (not-followed (bytes (good-test f)) (f .follow .result) (n .before .match .keys2))),
     )
 
