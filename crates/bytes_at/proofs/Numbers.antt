@@ -1,5 +1,5 @@
 -- The laws of numbers in bytes: reading what was written gives the number back, writing what was read the bytes. Assumes nothing.
-use mathlib.Core.Path.{_≡_, refl, ap}
+use mathlib.Core.Path.{_≡_, refl, ap, _∙_}
 use mathlib.Core.List.{List, _∷_, _++_}
 use Prim.Native.Nat.{ℕ, zero, suc, _+_, _*_, _/_, _%_, _^_, _≤_, _<_}
 use native.Mathlib.Nat.{pow-suc}
@@ -28,30 +28,35 @@ no-bytes : (at : ℕ) (bytes : List ℕ) → numberAt 0 at bytes ≡ 0
 unfolding number
 no-bytes at bytes = refl
 
-four-and : (width at : ℕ) (bytes : List ℕ) → numberAt (suc (suc (suc (suc width)))) at bytes
-    ≡ getD bytes at 0 + 256 * getD bytes (at + 1) 0 + 65536 * getD bytes (at + 2) 0 + 16777216 * getD bytes (at + 3) 0
-    + 4294967296 * numberAt width (at + 4) bytes
-four-and width at bytes =
-    let two : at + 1 + 1 ≡ at + 2 = omega arith in
-    let three : at + 2 + 1 ≡ at + 3 = omega arith in
-    let four : at + 3 + 1 ≡ at + 4 = omega arith in
+-- from the i-th after `at` on
+four-and : (width at i : ℕ) (bytes : List ℕ) → numberAt (suc (suc (suc (suc width)))) (at + i) bytes
+    ≡ getD bytes (at + i) 0 + 256 * getD bytes (at + (i + 1)) 0 + 65536 * getD bytes (at + (i + 2)) 0 + 16777216 * getD bytes (at + (i + 3)) 0
+    + 4294967296 * numberAt width (at + (i + 4)) bytes
+four-and width at i bytes =
+    let one : at + i + 1 ≡ at + (i + 1) = omega arith in
+    let two : at + (i + 1) + 1 ≡ at + (i + 2) = omega arith in
+    let three : at + (i + 2) + 1 ≡ at + (i + 3) = omega arith in
+    let four : at + (i + 3) + 1 ≡ at + (i + 4) = omega arith in
     rw (
-      first-byte (suc (suc (suc width))) at bytes,
-      first-byte (suc (suc width)) (at + 1) bytes,
+      first-byte (suc (suc (suc width))) (at + i) bytes,
+      one,
+      first-byte (suc (suc width)) (at + (i + 1)) bytes,
       two,
-      first-byte (suc width) (at + 2) bytes,
+      first-byte (suc width) (at + (i + 2)) bytes,
       three,
-      first-byte width (at + 3) bytes,
+      first-byte width (at + (i + 3)) bytes,
       four,
     )
     (omega arith)
 
-pub four-is : (at : ℕ) (bytes : List ℕ) → numberAt 4 at bytes
-    ≡ getD bytes at 0 + 256 * getD bytes (at + 1) 0 + 65536 * getD bytes (at + 2) 0 + 16777216 * getD bytes (at + 3) 0
-four-is at bytes = omega (arith, four-and 0 at bytes, no-bytes (at + 4) bytes)
+pub four-is : (at i : ℕ) (bytes : List ℕ) → numberAt 4 (at + i) bytes
+    ≡ getD bytes (at + i) 0 + 256 * getD bytes (at + (i + 1)) 0 + 65536 * getD bytes (at + (i + 2)) 0 + 16777216 * getD bytes (at + (i + 3)) 0
+four-is at i bytes = omega (arith, four-and 0 at i bytes, no-bytes (at + (i + 4)) bytes)
 
-pub eight-is : (at : ℕ) (bytes : List ℕ) → numberAt 8 at bytes ≡ numberAt 4 at bytes + 4294967296 * numberAt 4 (at + 4) bytes
-eight-is at bytes = omega (arith, four-and 4 at bytes, four-is at bytes)
+pub eight-is : (at : ℕ) (bytes : List ℕ) → numberAt 8 at bytes ≡ numberAt 4 (at + 0) bytes + 4294967296 * numberAt 4 (at + 4) bytes
+eight-is at bytes =
+    let here : at ≡ at + 0 = omega arith in
+    ap (λ (k : ℕ). numberAt 8 k bytes) here ∙ omega (arith, four-and 4 at 0 bytes, four-is at 0 bytes)
 
 -- ---- reading what was written
 

@@ -1,6 +1,4 @@
 -- `bytes_at::four_at` meets its contract. Assumes nothing.
-use mathlib.Core.Path.{_≡_}
-use Prim.Native.Nat.{_+_}
 use native.Mathlib.Omega.{arith}
 use denote.Ref.{now}
 use Rattle.bytes_at.proofs.Numbers.{four-is}
@@ -52,15 +50,8 @@ returns c =
     let three = c .before in
     let two = three .before in
     let one = two .before in
-    let a = one .before .before .args in
-    let at1 : a .at + (a .i + 1) ≡ a .at + a .i + 1 = omega arith in
-    let at2 : a .at + (a .i + 2) ≡ a .at + a .i + 2 = omega arith in
-    let at3 : a .at + (a .i + 3) ≡ a .at + a .i + 3 = omega arith in
-    let b = now (a .bytes) in
-    let e1 = rw at1 at (two .byte-at2 .ensures .0) in
-    let e2 = rw at2 at (three .byte-at3 .ensures .0) in
-    let e3 = rw at3 at (c .byte-at4 .ensures .0) in (
-      omega (arith, four-is (a .at + a .i) b, one .byte-at .ensures .0, e1, e2, e3),
+    let a = one .before .before .args in (
+      omega (arith, four-is (a .at) (a .i) (now (a .bytes)), one .byte-at .ensures .0, two .byte-at2 .ensures .0, three .byte-at3 .ensures .0, c .byte-at4 .ensures .0),
       omega (arith, one .byte-at .ensures .1, two .byte-at2 .ensures .1, three .byte-at3 .ensures .1, c .byte-at4 .ensures .1),
     )
 

@@ -1,6 +1,4 @@
 -- `bytes_at::u64_at` meets its contract. Assumes nothing.
-use mathlib.Core.Path.{_≡_}
-use Prim.Native.Nat.{_+_}
 use native.Mathlib.Omega.{arith}
 use denote.Ref.{now}
 use Rattle.bytes_at.proofs.Numbers.{eight-is}
@@ -23,9 +21,7 @@ add-result c = search needs
 returns : tie.Need-returns
 returns c =
     let a = c .before .before .before .args in
-    let p : a .at + 0 ≡ a .at = omega arith in
-    let low = rw p at (c .before .four-at .ensures .0) in
-    omega (arith, eight-is (a .at) (now (a .bytes)), low, c .four-at2 .ensures .0)
+    omega (arith, eight-is (a .at) (now (a .bytes)), c .before .four-at .ensures .0, c .four-at2 .ensures .0)
 
 pub u64-at-spec : {M : Type 1} → statement M
 u64-at-spec =
