@@ -20,7 +20,7 @@ use Rattle.instructions.proofs.Due.{Rests, rejected-rests, by-due}
 use Rattle.instructions.proofs.Steps.{Step, left, done, steps}
 use Rattle.host.specs.MachineBytes.{stateFields, fieldsOf, machineBytes, machineRule, machineIn, TimesFit}
 use Rattle.host.specs.Instruction.{Call, actionOf, isEvent, eventOf, inBytes, instructing, machineAfter}
-use Rattle.host.specs.EveryCall.{timesFit, bytesAfter, eventsOf, BytesFollow}
+use Rattle.host.specs.EveryCall.{callFits, bytesAfter, eventsOf, BytesFollow}
 use Rattle.host.proofs.Instructing.{not-good, is-followed}
 use Rattle.host.proofs.MachineBytes.{machine-back, zeros-fresh}
 
@@ -86,7 +86,7 @@ module _ (m : Machine) (f : Fits m) (c : Call) where
       by true = carried-bytes (following m (eventOf c))
       by false = refl
 
-  module _ (fit : timesFit c ≡ true) where
+  module _ (fit : callFits c ≡ true) where
     times : (c .time < 2 ^ 64) × (c .at < 2 ^ 64)
     times =
         let w = both-true (ltb (c .time) (2 ^ 64)) (ltb (c .at) (2 ^ 64)) fit in
@@ -114,16 +114,16 @@ pub record From (m : Machine) (calls : List Call) : Type 0 where
   pub bytes : foldl machineAfter (machineBytes m) calls ≡ machineBytes (run m (eventsOf calls))
   pub fits : Fits (run m (eventsOf calls))
 
-from-machine : (calls : List Call) (m : Machine) → Fits m → every timesFit calls ≡ true → From m calls
+from-machine : (calls : List Call) (m : Machine) → Fits m → every callFits calls ≡ true → From m calls
 unfolding eventsOf every
 from-machine [] m f each = record { bytes = refl; fits = f }
 from-machine (c ∷ calls) m f each =
-    let w = both-true (timesFit c) (every timesFit calls) each in
+    let w = both-true (callFits c) (every callFits calls) each in
     let rest = from-machine calls (followed m f c) (call-fits m f c (w .0)) (w .1) in
     let split = foldl-append after m (cond (isEvent c) (eventOf c ∷ []) []) (eventsOf calls) in
     record { bytes = rw (one-call m f c, split) (rest .bytes); fits = rw split (rest .fits) }
 
-pub bytes-follow : (calls : List Call) → every timesFit calls ≡ true → BytesFollow calls
+pub bytes-follow : (calls : List Call) → every callFits calls ≡ true → BytesFollow calls
 bytes-follow calls each =
     let all = from-machine calls fresh (record { last = omega arith; issue = omega arith; at = omega arith }) each in
     let same : bytesAfter calls ≡ machineBytes (run fresh (eventsOf calls)) =

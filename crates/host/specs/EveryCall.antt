@@ -1,7 +1,7 @@
 -- Every list of calls of soe_instruction on 32 bytes that were 0 at first. `BytesFollow`, at the end, is the statement, and
 -- `bytes-follow` in proofs/EveryCall.antt its proof: the bytes are those of the machine after the events of the calls, so that
--- what `AfterEveryList` of instructions says of that machine is true of them, and the next call gets that machine's answer.
--- Assumes nothing.
+-- what `AfterEveryList` of instructions says of that machine is true of them, and the next call gets that machine's answer. The
+-- calls' times are any u64. Assumes nothing.
 use mathlib.Core.Path.{_≡_}
 use mathlib.Core.Bool.{Bool, cond, _&&_}
 use mathlib.Core.List.{List, [], _∷_, _++_, foldl}
@@ -16,8 +16,8 @@ use Rattle.host.specs.MachineBytes.{machineBytes}
 use Rattle.host.specs.Instruction.{Call, isEvent, eventOf, inBytes, instructing, machineAfter}
 
 -- both times are any u64
-abbrev pub timesFit : Call → Bool
-timesFit c = ltb (c .time) (2 ^ 64) && ltb (c .at) (2 ^ 64)
+abbrev pub callFits : Call → Bool
+callFits c = ltb (c .time) (2 ^ 64) && ltb (c .at) (2 ^ 64)
 
 -- each call gets the bytes that the last one left
 abbrev pub bytesAfter : List Call → List ℕ

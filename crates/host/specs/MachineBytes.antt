@@ -51,7 +51,7 @@ stateFields (CeasePending p) last = pendingFields 3 p last
 abbrev pub fieldsOf : Machine → Fields
 fieldsOf m = stateFields (m .state) (m .last)
 
--- numbers that are no machine: another state or accepted, or a field that the state does not have
+-- of a machine: state 0 to 3, accepted 0 or 1, and 0 in the fields that a state does not have
 unfoldable pub fieldsRule : Fields → Bool
 fieldsRule f =
     leb (f .state) 3

@@ -110,8 +110,8 @@ onAcceptedStart time (e ∷ events) =
 abbrev pub tickAt : ℕ → Event
 tickAt time = record { time = time; action = Tick }
 
--- `m` is the machine after the events
-pub record Holds (events : List Event) (m : Machine) : Type 0 where
+-- of `m`, the machine after the events
+pub record HoldsAfter (events : List Event) (m : Machine) : Type 0 where
   -- 1.
   pub nothing-due : NothingDue (m .last) (m .state)
   -- 2.
@@ -125,4 +125,4 @@ pub record Holds (events : List Event) (m : Machine) : Type 0 where
   pub never-falls : (more : List Event) → m .last ≤ run m more .last
 
 abbrev pub AfterEveryList : List Event → Type 0
-AfterEveryList events = Holds events (run fresh events)
+AfterEveryList events = HoldsAfter events (run fresh events)
