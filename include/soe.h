@@ -8,10 +8,12 @@
  * output is written. The caller sees to it that a pointer is not null, also where its length is 0, that it leads to as many
  * bytes as its length says, and that an output overlaps no other argument. Every other argument may have any value.
  *
- * Unsigned numbers: quantities, direction and submitted limit are uint32_t, so that none below 0 can be handed in. A host that
- * holds one in a signed or wider type compares it with 0 and 4,294,967,295 before the call and refuses it itself, since C converts
- * it without a warning. An int32_t below 0 becomes a number above 2,147,483,647: soe_terms refuses that as a quantity with -1,
- * soe_quantity as a direction or a limit with -12. */
+ * Unsigned numbers: quantities, direction, submitted limit, event, available and armed are uint32_t, and times uint64_t, so that
+ * none below 0 can be handed in. A host that holds one in a signed or wider type compares it with 0 and the greatest number of
+ * the parameter's type before the call and refuses it itself, since C converts it without a warning. An int32_t below 0 becomes a
+ * number above 2,147,483,647: soe_terms refuses that as a quantity with -1, soe_quantity as a direction or a limit with -12, and
+ * soe_instruction as an event or a start's available or armed with -13; its limit may be any number. An int64_t below 0 becomes
+ * a time far ahead, and every event after it would be refused with -15. */
 #ifndef SOE_H
 #define SOE_H
 
