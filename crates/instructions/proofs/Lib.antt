@@ -1,4 +1,5 @@
 pub mod Carried
+pub mod Delivery
 pub mod Due
 pub mod EveryList
 pub mod Following
