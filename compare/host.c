@@ -1,5 +1,5 @@
 /* Calls each function of include/soe.h as a host does, and compares what it returns and every byte of what it was lent.
- * A line for each check; the exit status is 1 where one differs. The expected numbers are derived by hand from paper 01. */
+ * A line for each check; the exit status is 1 where one differs. The expected numbers follow by hand from papers 01 and 02. */
 #include <inttypes.h>
 #include <stdio.h>
 #include <string.h>
@@ -81,6 +81,108 @@ static void quantity(const char *what, int64_t expected, uint32_t direction, int
     check(what, got, expected, memcmp(bytes, lent, sizeof lent) == 0);
 }
 
+/* The machine of one direction, which the checks of instructions hand on from one to the next, between bytes that no call is
+ * lent. */
+#define BESIDE 8
+static uint8_t around[BESIDE + SOE_MACHINE + BESIDE];
+
+/* A field of the machine, the lowest byte first. */
+static void put(uint8_t *at, size_t width, uint64_t number) {
+    for (size_t i = 0; i < width; i++)
+        at[i] = (uint8_t)(number >> 8 * i);
+}
+
+static void put_machine(uint32_t state, uint32_t accepted, uint64_t last, uint64_t issue, uint64_t at) {
+    uint8_t *machine = around + BESIDE;
+    put(machine, 4, state);
+    put(machine + 4, 4, accepted);
+    put(machine + 8, 8, last);
+    put(machine + 16, 8, issue);
+    put(machine + 24, 8, at);
+}
+
+/* An event that is carried out: of a unit that is available and armed, with a limit of 25 MW. After `at` stands the machine
+ * that it leaves. */
+static void carried_out(const char *what, uint32_t event, uint64_t time, uint64_t at, uint32_t state, uint32_t accepted,
+                        uint64_t last, uint64_t issue, uint64_t instructed) {
+    uint8_t found[sizeof around];
+    memcpy(found, around, sizeof around);
+    put_machine(state, accepted, last, issue, instructed);
+    int64_t got = soe_instruction(found + BESIDE, SOE_MACHINE, event, time, at, 25000, 1, 1);
+    check(what, got, 0, memcmp(found, around, sizeof around) == 0);
+}
+
+/* An event that is refused, on `length` bytes: the machine stays, and what was due is not done. */
+static void refused(const char *what, int64_t expected, size_t length, uint32_t event, uint64_t time, uint64_t at,
+                    uint32_t limit, uint32_t available, uint32_t armed) {
+    uint8_t found[sizeof around];
+    memcpy(found, around, sizeof around);
+    int64_t got = soe_instruction(found + BESIDE, length, event, time, at, limit, available, armed);
+    check(what, got, expected, memcmp(found, around, sizeof around) == 0);
+}
+
+static void instructions(void) {
+    const uint64_t last = UINT64_MAX;
+    memset(around, 0xa5, sizeof around);
+    memset(around + BESIDE, 0, SOE_MACHINE);
+
+    refused("instruction, start 119 after issue", -16, 32, SOE_START, 1000, 1119, 25000, 1, 1);
+    refused("instruction, start with limit 0", -17, 32, SOE_START, 1000, 1120, 0, 1, 1);
+    refused("instruction, start of a unit not available", -17, 32, SOE_START, 1000, 1120, 25000, 0, 1);
+    refused("instruction, start of a unit not armed", -17, 32, SOE_START, 1000, 1120, 25000, 1, 0);
+    refused("instruction, 16 before 17", -16, 32, SOE_START, 1000, 1119, 0, 0, 0);
+    refused("instruction, available 2", -13, 32, SOE_START, 1000, 1119, 25000, 2, 1);
+    refused("instruction, armed -1 as C converts it", -13, 32, SOE_START, 1000, 1120, 25000, 1, (uint32_t)-1);
+    refused("instruction, cease of an idle direction", -17, 32, SOE_CEASE, 1000, 1120, 0, 0, 0);
+    refused("instruction, answer to nothing", -17, 32, SOE_ACCEPT, 1000, 0, 0, 0, 0);
+    refused("instruction, event 0", -13, 32, 0, 1000, 1120, 25000, 1, 1);
+    refused("instruction, event 6", -13, 32, 6, 1000, 1120, 25000, 1, 1);
+    refused("instruction, 31 bytes", -13, 31, SOE_TICK, 1000, 0, 0, 0, 0);
+    refused("instruction, 33 bytes", -13, 33, SOE_TICK, 1000, 0, 0, 0, 0);
+    refused("instruction, no bytes", -13, 0, SOE_TICK, 1000, 0, 0, 0, 0);
+
+    /* A start and a cease that are accepted. */
+    carried_out("instruction, start", SOE_START, 1000, 1300, SOE_START_PENDING, 0, 1000, 1000, 1300);
+    refused("instruction, start while one is pending", -17, 32, SOE_START, 1001, 1300, 25000, 1, 1);
+    refused("instruction, 15 before 16", -15, 32, SOE_START, 999, 999, 25000, 1, 1);
+    carried_out("instruction, accepted 119 after issue", SOE_ACCEPT, 1119, 0, SOE_START_PENDING, 1, 1119, 1000, 1300);
+    refused("instruction, a second answer", -17, 32, SOE_REJECT, 1120, 0, 0, 0, 0);
+    carried_out("instruction, a second early", SOE_TICK, 1299, 0, SOE_START_PENDING, 1, 1299, 1000, 1300);
+    refused("instruction, start as it delivers", -17, 32, SOE_START, 1300, 1500, 25000, 1, 1);
+    carried_out("instruction, delivers from its start time", SOE_TICK, 1300, 0, SOE_DELIVERING, 0, 1300, 0, 0);
+    refused("instruction, cease 119 after issue", -16, 32, SOE_CEASE, 1300, 1419, 0, 0, 0);
+    carried_out("instruction, cease", SOE_CEASE, 1300, 1420, SOE_CEASE_PENDING, 0, 1300, 1300, 1420);
+    carried_out("instruction, accepted at once", SOE_ACCEPT, 1300, 0, SOE_CEASE_PENDING, 1, 1300, 1300, 1420);
+    carried_out("instruction, idle at its cease time", SOE_TICK, 1420, 0, SOE_IDLE, 0, 1420, 0, 0);
+
+    /* Answers 120 and 121 after issue. */
+    carried_out("instruction, start 120 after issue", SOE_START, 2000, 2120, SOE_START_PENDING, 0, 2000, 2000, 2120);
+    carried_out("instruction, accepted 120 after issue, delivers", SOE_ACCEPT, 2120, 0, SOE_DELIVERING, 0, 2120, 0, 0);
+    carried_out("instruction, cease", SOE_CEASE, 3000, 3500, SOE_CEASE_PENDING, 0, 3000, 3000, 3500);
+    carried_out("instruction, still unanswered at 120", SOE_TICK, 3120, 0, SOE_CEASE_PENDING, 0, 3120, 3000, 3500);
+    refused("instruction, accepted 121 after issue", -17, 32, SOE_ACCEPT, 3121, 0, 0, 0, 0);
+    carried_out("instruction, unanswered cease delivers on", SOE_TICK, 3121, 0, SOE_DELIVERING, 0, 3121, 0, 0);
+    carried_out("instruction, cease", SOE_CEASE, 4000, 4120, SOE_CEASE_PENDING, 0, 4000, 4000, 4120);
+    carried_out("instruction, rejected cease delivers on", SOE_REJECT, 4120, 0, SOE_DELIVERING, 0, 4120, 0, 0);
+    carried_out("instruction, cease", SOE_CEASE, 5000, 5120, SOE_CEASE_PENDING, 0, 5000, 5000, 5120);
+    carried_out("instruction, accepted 120 after issue, idle", SOE_ACCEPT, 5120, 0, SOE_IDLE, 0, 5120, 0, 0);
+    carried_out("instruction, start", SOE_START, 6000, 9000, SOE_START_PENDING, 0, 6000, 6000, 9000);
+    carried_out("instruction, start after an unanswered one", SOE_START, 6121, 9000, SOE_START_PENDING, 0, 6121, 6121, 9000);
+    carried_out("instruction, rejected start is idle", SOE_REJECT, 6121, 0, SOE_IDLE, 0, 6121, 0, 0);
+
+    /* The largest times, and bytes that are no machine. */
+    refused("instruction, the last time 119 after issue", -16, 32, SOE_START, last - 119, last, 25000, 1, 1);
+    carried_out("instruction, the last time 120 after issue", SOE_START, last - 120, last, SOE_START_PENDING, 0, last - 120,
+                last - 120, last);
+    carried_out("instruction, accepted at the last time", SOE_ACCEPT, last, 0, SOE_DELIVERING, 0, last, 0, 0);
+    put_machine(4, 0, 0, 0, 0);
+    refused("instruction, state 4", -13, 32, SOE_TICK, 1000, 0, 0, 0, 0);
+    put_machine(SOE_START_PENDING, 2, 1000, 1000, 1120);
+    refused("instruction, accepted 2", -13, 32, SOE_TICK, 999, 0, 0, 0, 0);
+    put_machine(SOE_IDLE, 0, 1000, 1000, 0);
+    refused("instruction, issue of an idle machine", -13, 32, SOE_TICK, 1000, 0, 0, 0, 0);
+}
+
 int main(void) {
     report("report, the paper's example", LINE1, "        1", 189, 488, 0);
     report("report, bytes past 488 are kept", LINE1, "        1", 189, ROOM, 0);
@@ -128,5 +230,7 @@ int main(void) {
     quantity("quantity, level above MEL", -12, 1, 0, 0, 100001, FOUR, 32, 4000000);
     quantity("quantity, one point", -12, 1, 0, 0, 70000, FOUR, 8, 4000000);
     quantity("quantity, a byte too few", -12, 1, 0, 0, 70000, FOUR, 31, 4000000);
+
+    instructions();
     return differences;
 }
