@@ -1,5 +1,6 @@
 //! The functions of include/soe.h, each called beside the model.
 
+use crate::instructions::{self, Call};
 use crate::model::{self, Int, Levels, Terms};
 use crate::tally::{stop, Tally};
 
@@ -27,6 +28,17 @@ extern "C" {
         points: *const u8,
         points_len: usize,
         limit: u32,
+    ) -> i64;
+
+    fn soe_instruction(
+        machine: *mut u8,
+        machine_length: usize,
+        event: u32,
+        time: u64,
+        at: u64,
+        limit: u32,
+        available: u32,
+        armed: u32,
     ) -> i64;
 }
 
@@ -156,4 +168,61 @@ pub fn quantity(
     }
     tally.count(topic, "soe_quantity", refusal);
     expected
+}
+
+/// The bytes before and after those that an event's call is lent.
+const BESIDE: usize = 17;
+
+/// The events of soe.h by their numbers; 0 stands for any other.
+pub const EVENTS: [&str; 6] = ["no event", "start", "cease", "accept", "reject", "tick"];
+
+/// Compares the number, every byte that the call was lent and the bytes beside them. Gives the number and the machine's bytes
+/// afterwards.
+pub fn instruction(
+    topic: &'static str,
+    machine: &[u8],
+    call: &Call,
+    tally: &mut Tally,
+) -> (i64, Vec<u8>) {
+    let lent = BESIDE..BESIDE + machine.len();
+    let mut expected: Vec<u8> = (0..lent.end + BESIDE).map(|i| (i * 7 + 1) as u8).collect();
+    expected[lent.clone()].copy_from_slice(machine);
+    let mut bytes = expected.clone();
+    let number = match instructions::soe_instruction(machine, call) {
+        Ok(after) => {
+            expected[lent.clone()].copy_from_slice(&after);
+            0
+        }
+        Err(number) => -number,
+    };
+    // SAFETY: the pointer is not null, also for no bytes, and leads to as many bytes as its length says.
+    let found = unsafe {
+        soe_instruction(
+            bytes[lent.clone()].as_mut_ptr(),
+            machine.len(),
+            call.event,
+            call.time,
+            call.at,
+            call.limit,
+            call.available,
+            call.armed,
+        )
+    };
+    if found != number || bytes != expected {
+        let shown = format!("soe_instruction, {call:?}, machine {machine:02x?}\n");
+        let show = |number, bytes: &[u8]| {
+            let (before, rest) = bytes.split_at(lent.start);
+            let (machine, after) = rest.split_at(machine.len());
+            format!("{number}, machine {machine:02x?} between {before:02x?} and {after:02x?}")
+        };
+        stop(
+            topic,
+            shown.as_bytes(),
+            &show(number, &expected),
+            &show(found, &bytes),
+        );
+    }
+    let event = EVENTS.get(call.event as usize).unwrap_or(&EVENTS[0]);
+    tally.count(topic, event, -number);
+    (number, bytes[lent].to_vec())
 }

@@ -6,6 +6,8 @@
 mod day;
 mod host;
 mod host_cases;
+mod instruction_cases;
+mod instructions;
 mod model;
 mod papers;
 mod random;
@@ -31,6 +33,9 @@ fn main() {
     papers::compare(runs, tally);
     day::compare(runs, tally);
     host_cases::damaged_reports(tally);
+    instruction_cases::edges(tally);
+    instruction_cases::damaged(tally);
+    instruction_cases::lists(random, 2_000, tally);
     trace_cases::energy_edges(random, runs, tally);
     trace_cases::count_edges(runs, tally);
     trace_cases::block_edges(runs, tally);
@@ -40,6 +45,9 @@ fn main() {
         host_cases::quantity(random, 1_000, tally);
         host_cases::reports(random, 1_000, tally);
         host_cases::damaged_random_report(random, tally);
+        instruction_cases::lists(random, 50, tally);
+        instruction_cases::made_up(random, 500, tally);
+        instruction_cases::any_damaged(random, 500, tally);
         for _ in 0..4 {
             runs.add(trace_cases::energy(random), tally);
             runs.add(trace_cases::block(random), tally);
@@ -57,6 +65,9 @@ fn main() {
 
     println!("cases by topic and call, and how many gave which refusal (0: none)");
     tally.print();
+    println!("events of lists by the state before and the state once what was due has happened, and how often each led where");
+    tally.print_kinds();
+    instruction_cases::all_reached(tally);
     println!(
         "compare: {} cases, no difference (seed {seed})",
         tally.total()

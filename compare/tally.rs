@@ -7,6 +7,7 @@ use std::fs;
 #[derive(Default)]
 pub struct Tally {
     counts: BTreeMap<(&'static str, &'static str), BTreeMap<i64, u64>>,
+    kinds: BTreeMap<[&'static str; 4], u64>,
 }
 
 impl Tally {
@@ -14,6 +15,15 @@ impl Tally {
     pub fn count(&mut self, topic: &'static str, call: &'static str, number: i64) {
         let numbers = self.counts.entry((topic, call)).or_default();
         *numbers.entry(number).or_default() += 1;
+    }
+
+    /// A compared event was of this kind: the state before, the state once what was due has happened, the event and its end.
+    pub fn reach(&mut self, kind: [&'static str; 4]) {
+        *self.kinds.entry(kind).or_default() += 1;
+    }
+
+    pub fn reached(&self) -> BTreeMap<[&'static str; 4], u64> {
+        self.kinds.clone()
     }
 
     pub fn total(&self) -> u64 {
@@ -26,6 +36,19 @@ impl Tally {
             let all: u64 = numbers.values().sum();
             let each: Vec<String> = numbers.iter().map(|(n, c)| format!("{n}: {c}")).collect();
             println!("{topic:16} {call:12} {all:8}   {}", each.join(", "));
+        }
+    }
+
+    /// A line for each state, before what was due and after it: how often each event led where, or got which refusal.
+    pub fn print_kinds(&self) {
+        let kinds: Vec<_> = self.kinds.iter().collect();
+        for same in kinds.chunk_by(|a, b| a.0[..2] == b.0[..2]) {
+            let [before, now, ..] = same[0].0;
+            let each = same
+                .iter()
+                .map(|([.., event, end], c)| format!("{event} > {end}: {c}"));
+            let each: Vec<String> = each.collect();
+            println!("{before:16} {now:16} {}", each.join(", "));
         }
     }
 }
