@@ -1,4 +1,5 @@
 // Times the proved code, through the static libraries of crates bench and host, against the same work in plain Rust, in one run.
+use std::cell::Cell;
 use std::hint::black_box;
 use std::time::Instant;
 
@@ -34,6 +35,16 @@ extern "C" {
         high_dr: u32,
         export_limit: i64,
         import_limit: i64,
+    ) -> i64;
+    fn soe_instruction(
+        machine: *mut u8,
+        machine_length: usize,
+        event: u32,
+        time: u64,
+        at: u64,
+        limit: u32,
+        available: u32,
+        armed: u32,
     ) -> i64;
 }
 
@@ -594,7 +605,116 @@ fn plain_closings(unit: [u32; 3], n: u32, c: &Closing, readings: &[u16]) -> u64 
     record.closed as u64 * 4294967296 + record.state as u64
 }
 
-// ---- readings, texts and terms
+// ---- instructions in plain Rust
+
+const IDLE: u32 = 0;
+const START_PENDING: u32 = 1;
+const DELIVERING: u32 = 2;
+const CEASE_PENDING: u32 = 3;
+
+#[derive(Clone, Copy)]
+struct Machine {
+    state: u32,
+    accepted: u32,
+    last: u64,
+    issue: u64,
+    at: u64,
+}
+
+impl Machine {
+    fn read(bytes: &[u8]) -> Option<Machine> {
+        let bytes: &[u8; 32] = bytes.try_into().ok()?;
+        let short = |at: usize| u32::from_le_bytes(bytes[at..at + 4].try_into().unwrap());
+        let long = |at: usize| u64::from_le_bytes(bytes[at..at + 8].try_into().unwrap());
+        let m = Machine { state: short(0), accepted: short(4), last: long(8), issue: long(16), at: long(24) };
+        let good = match m.state {
+            IDLE | DELIVERING => m.accepted == 0 && m.issue == 0 && m.at == 0,
+            START_PENDING | CEASE_PENDING => m.accepted <= 1,
+            _ => false,
+        };
+        good.then_some(m)
+    }
+
+    fn write(&self, bytes: &mut [u8]) {
+        bytes[0..4].copy_from_slice(&self.state.to_le_bytes());
+        bytes[4..8].copy_from_slice(&self.accepted.to_le_bytes());
+        bytes[8..16].copy_from_slice(&self.last.to_le_bytes());
+        bytes[16..24].copy_from_slice(&self.issue.to_le_bytes());
+        bytes[24..32].copy_from_slice(&self.at.to_le_bytes());
+    }
+
+    fn settle(&mut self, state: u32) {
+        *self = Machine { state, accepted: 0, issue: 0, at: 0, ..*self };
+    }
+
+    fn issue(&mut self, state: u32, time: u64, at: u64) {
+        *self = Machine { state, accepted: 0, issue: time, at, ..*self };
+    }
+
+    fn unanswered(&self) -> bool {
+        matches!(self.state, START_PENDING | CEASE_PENDING) && self.accepted == 0
+    }
+
+    fn reject(&mut self) {
+        self.settle(if self.state == START_PENDING { IDLE } else { DELIVERING });
+    }
+
+    fn due(&mut self, time: u64) {
+        if self.unanswered() {
+            if time.saturating_sub(self.issue) > 120 {
+                self.reject();
+            }
+            return;
+        }
+        match self.state {
+            START_PENDING if self.at <= time => self.settle(DELIVERING),
+            CEASE_PENDING if self.at <= time => self.settle(IDLE),
+            _ => {}
+        }
+    }
+}
+
+// The arguments of `soe_instruction`: the call is a good part of the time.
+#[inline(never)]
+unsafe extern "C" fn plain_instruction(
+    machine: *mut u8,
+    machine_length: usize,
+    event: u32,
+    time: u64,
+    at: u64,
+    limit: u32,
+    available: u32,
+    armed: u32,
+) -> i64 {
+    let bytes = unsafe { std::slice::from_raw_parts_mut(machine, machine_length) };
+    let Some(mut m) = Machine::read(bytes) else {
+        return -13;
+    };
+    if !(1..=5).contains(&event) || (event == 1 && (available > 1 || armed > 1)) {
+        return -13;
+    }
+    if time < m.last {
+        return -15;
+    }
+    if event <= 2 && at.saturating_sub(time) < 120 {
+        return -16;
+    }
+    m.due(time);
+    match event {
+        1 if m.state == IDLE && limit != 0 && available == 1 && armed == 1 => m.issue(START_PENDING, time, at),
+        2 if m.state == DELIVERING => m.issue(CEASE_PENDING, time, at),
+        3 if m.unanswered() => m.accepted = 1,
+        4 if m.unanswered() => m.reject(),
+        5 => {}
+        _ => return -17,
+    }
+    m.last = time;
+    m.due(time);
+    m.write(bytes);
+    0
+}
+
+// ---- readings, texts, terms and events
 
 struct Random(u32);
 
@@ -664,6 +784,67 @@ fn terms(random: &mut Random) -> Terms {
     let (low, high) = (q(), q());
     let mut limit = || random.below(2_100_000) as i64 - 50_000;
     Terms { low, high, export_limit: limit(), import_limit: limit() }
+}
+
+#[derive(Clone, Copy)]
+struct Event {
+    event: u32,
+    time: u64,
+    at: u64,
+    limit: u32,
+    available: u32,
+    armed: u32,
+}
+
+// An event of a unit that is available and armed.
+fn event(event: u32, time: u64, at: u64) -> Event {
+    Event { event, time, at, limit: 25_000, available: 1, armed: 1 }
+}
+
+// A unit started and ceased over and over, each instruction accepted, and a tick at its time.
+fn day(random: &mut Random, count: usize) -> Vec<Event> {
+    let mut events = Vec::new();
+    let mut time = 0;
+    while events.len() < count {
+        for instruction in [1, 2] {
+            let issue = time + random.below(600) as u64;
+            let answer = issue + random.below(121) as u64;
+            time = issue + 120 + random.below(600) as u64;
+            events.extend([event(instruction, issue, time), event(3, answer, 0), event(5, time, 0)]);
+        }
+    }
+    events.truncate(count);
+    events
+}
+
+// Bytes that a call is lent, and how many of them.
+type Lent = ([u8; 40], usize);
+
+// A machine with its times within some minutes, of which one in three is damaged, and any event.
+fn odd(random: &mut Random) -> (Lent, Event) {
+    let mut time = || 10_000 + random.below(400) as u64;
+    let [last, issue, at, now] = [time(), time(), time(), time()];
+    let state = random.below(4);
+    let pending = state % 2;
+    let mut lent = ([0; 40], 32);
+    let m = Machine {
+        state,
+        accepted: pending * random.below(2),
+        last,
+        issue: pending as u64 * issue,
+        at: pending as u64 * at,
+    };
+    m.write(&mut lent.0[..32]);
+    match random.below(6) {
+        0 => lent.0[random.below(32) as usize] = random.below(256) as u8,
+        1 => lent.1 = [0, 31, 33, 40][random.below(4) as usize],
+        _ => {}
+    }
+    let mut e = event(random.below(6), now, now + 100 + random.below(100) as u64);
+    e.limit *= random.below(2);
+    e.available = random.below(3);
+    e.armed = random.below(3);
+    (lent, e)
 }
 
 // ---- timing: the least time of each over the repetitions, and the middle and the middle half of the ratios
@@ -855,6 +1036,57 @@ fn term_checks(random: &mut Random) {
     }
 }
 
+type Instruct = unsafe extern "C" fn(*mut u8, usize, u32, u64, u64, u32, u32, u32) -> i64;
+
+const INSTRUCTION_WAYS: [Instruct; 2] = [soe_instruction, plain_instruction];
+
+fn instruct(f: Instruct, machine: *mut u8, length: usize, e: &Event) -> i64 {
+    unsafe { f(machine, length, e.event, e.time, e.at, e.limit, e.available, e.armed) }
+}
+
+// The number, and the bytes that both have afterwards.
+fn same_instruction(lent: &Lent, e: &Event) -> (i64, [u8; 40]) {
+    let [proved, plain] = INSTRUCTION_WAYS.map(|f| {
+        let mut bytes = lent.0;
+        (instruct(f, bytes.as_mut_ptr(), lent.1, e), bytes)
+    });
+    assert_eq!(proved, plain);
+    plain
+}
+
+fn instructions(random: &mut Random) {
+    // one machine through all of them
+    let events = day(random, 10_000);
+    let mut lent = ([0; 40], 32);
+    for e in &events {
+        let (number, after) = same_instruction(&lent, e);
+        assert_eq!(number, 0);
+        lent.0 = after;
+    }
+    let ways = INSTRUCTION_WAYS.map(|f| {
+        let (events, machine) = (&events, Cell::new([0; 32]));
+        move |i: usize| {
+            if i == 0 {
+                machine.set([0; 32]);
+            }
+            black_box(instruct(f, machine.as_ptr().cast(), 32, black_box(&events[i])));
+        }
+    });
+    compare("instruction", "10,000 of one unit", events.len(), &ways);
+
+    // a machine for each
+    let all: Vec<_> = (0..10_000).map(|_| odd(random)).collect();
+    let refused = all.iter().filter(|(lent, e)| same_instruction(lent, e).0 != 0).count();
+    let ways = INSTRUCTION_WAYS.map(|f| {
+        let all = &all;
+        move |i: usize| {
+            let ((mut bytes, length), e) = all[i];
+            black_box(instruct(f, black_box(bytes.as_mut_ptr()), length, black_box(&e)));
+        }
+    });
+    compare("instruction", &format!("10,000, of which {refused} refused"), all.len(), &ways);
+}
+
 fn same_closings(unit: [u32; 3], n: u32, c: &Closing, readings: &[u16], closed: u64, state: u64) {
     let number = closed * 4294967296 + state;
     assert_eq!(proved_closings(unit, n, c, readings), number);
@@ -945,4 +1177,5 @@ fn main() {
     closings(&within);
     reports(&mut random);
     term_checks(&mut random);
+    instructions(&mut random);
 }
