@@ -137,6 +137,7 @@ static void instructions(void) {
     refused("instruction, answer to nothing", -17, 32, SOE_ACCEPT, 1000, 0, 0, 0, 0);
     refused("instruction, event 0", -13, 32, 0, 1000, 1120, 25000, 1, 1);
     refused("instruction, event 6", -13, 32, 6, 1000, 1120, 25000, 1, 1);
+    refused("instruction, event -1 as C converts it", -13, 32, (uint32_t)-1, 1000, 1120, 25000, 1, 1);
     refused("instruction, 31 bytes", -13, 31, SOE_TICK, 1000, 0, 0, 0, 0);
     refused("instruction, 33 bytes", -13, 33, SOE_TICK, 1000, 0, 0, 0, 0);
     refused("instruction, no bytes", -13, 0, SOE_TICK, 1000, 0, 0, 0, 0);
