@@ -880,7 +880,7 @@ fn ratios(own: &[f64], other: &[f64]) -> [f64; 3] {
     [all[middle], all[middle / 2], all[middle + middle / 2]]
 }
 
-// The times of each way, all in turn; beside a way stands how many periods, texts or terms it runs over.
+// The times of each way, all in turn; beside a way stands how many periods, texts, terms or events it runs over.
 fn measure<F: Fn(usize)>(ways: &[(usize, &F)]) -> Vec<Vec<f64>> {
     let mut times = vec![Vec::new(); ways.len()];
     for _ in 0..REPETITIONS {
