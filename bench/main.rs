@@ -1,4 +1,5 @@
-// Times the proved code, through the static libraries of crates bench and host, against the same work in plain Rust, in one run.
+// Times the proved code, through the static libraries of crates bench and host, against the same work in plain Rust, in one run;
+// and, with the configuration `before`, period energy against that of an earlier revision.
 use std::cell::Cell;
 use std::hint::black_box;
 use std::time::Instant;
@@ -50,6 +51,25 @@ extern "C" {
 
 fn proved_period(q: [u32; 3], curves: [u32; 3], readings: &[u16]) -> u64 {
     unsafe { bench_period(q[0], q[1], q[2], curves[0], curves[1], curves[2], readings.as_ptr(), readings.len()) }
+}
+
+#[cfg(before)]
+extern "C" {
+    fn before_period(
+        dc: u32,
+        dm: u32,
+        dr: u32,
+        dc_curve: u32,
+        dm_curve: u32,
+        dr_curve: u32,
+        readings: *const u16,
+        count: usize,
+    ) -> u64;
+}
+
+#[cfg(before)]
+fn earlier_period(q: [u32; 3], curves: [u32; 3], readings: &[u16]) -> u64 {
+    unsafe { before_period(q[0], q[1], q[2], curves[0], curves[1], curves[2], readings.as_ptr(), readings.len()) }
 }
 
 fn proved_closings(unit: [u32; 3], n: u32, c: &Closing, readings: &[u16]) -> u64 {
@@ -934,29 +954,54 @@ fn same_period(q: [u32; 3], curves: [u32; 3], readings: &[u16]) -> u64 {
     plain
 }
 
-fn period_ways<'a>(q: [u32; 3], curves: [u32; 3], periods: &'a [Vec<u16>]) -> [impl Fn(usize) + 'a; 3] {
-    PERIOD_WAYS.map(|f| {
+fn period_ways<'a, const N: usize>(
+    ways: [Period; N],
+    q: [u32; 3],
+    curves: [u32; 3],
+    periods: &'a [Vec<u16>],
+) -> [impl Fn(usize) + 'a; N] {
+    ways.map(|f| {
         move |i: usize| {
             black_box(f(black_box(q), black_box(curves), black_box(&periods[i])));
         }
     })
 }
 
+const STOCK: [u32; 3] = [1, 2, 2];
+const SERVICES: [(&str, [u32; 3]); 2] = [("three", [40, 60, 100]), ("one", [0, 0, 100])];
+
 fn periods(kinds: &[Kind]) {
-    for (shape, curves) in [("stock", [1, 2, 2]), ("rising", [3, 3, 3])] {
+    for (shape, curves) in [("stock", STOCK), ("rising", [3, 3, 3])] {
         for kind in kinds {
-            for (services, q) in [("three", [40, 60, 100]), ("one", [0, 0, 100])] {
+            for (services, q) in SERVICES {
                 for readings in kind.two.iter().chain(&kind.twenty) {
                     same_period(q, curves, readings);
                 }
                 let of = format!("{}, {services}, {shape}", kind.name);
-                let two = period_ways(q, curves, &kind.two);
+                let two = period_ways(PERIOD_WAYS, q, curves, &kind.two);
                 if shape == "stock" {
-                    let twenty = period_ways(q, curves, &kind.twenty);
+                    let twenty = period_ways(PERIOD_WAYS, q, curves, &kind.twenty);
                     compare_rates(["period energy", "period, 36,000"], &of, &two, &twenty);
                 } else {
                     compare("period energy", &of, PERIODS, &two);
                 }
+            }
+        }
+    }
+}
+
+// Period energy now against that of the earlier revision, both proved.
+#[cfg(before)]
+fn against_before(kinds: &[Kind]) {
+    for kind in kinds {
+        for (services, q) in SERVICES {
+            for (work, periods) in [("period energy", &kind.two), ("period, 36,000", &kind.twenty)] {
+                for readings in periods {
+                    assert_eq!(proved_period(q, STOCK, readings), earlier_period(q, STOCK, readings));
+                }
+                let of = format!("{}, {services}, stock", kind.name);
+                let ways = period_ways([proved_period, earlier_period], q, STOCK, periods);
+                compare(work, &of, periods.len(), &ways);
             }
         }
     }
@@ -1178,4 +1223,10 @@ fn main() {
     reports(&mut random);
     term_checks(&mut random);
     instructions(&mut random);
+    #[cfg(before)]
+    {
+        println!("{:14} {:38} {:>9} {}", "work", "of", "now, us", title("before, us"));
+        against_before(&within);
+        against_before(&any);
+    }
 }

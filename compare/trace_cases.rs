@@ -247,7 +247,7 @@ fn divisor(a: Int, b: Int) -> Int {
 }
 
 /// Each once at each rate: curves broken in each way, readings at each corner, each reading by itself, sums around multiples of
-/// what divides them.
+/// what divides them, sums from a place on.
 pub fn energy_edges(random: &mut Random, runs: &mut Runs, tally: &mut Tally) {
     for rate in RATES {
         for count in 1..=5 {
@@ -271,6 +271,7 @@ pub fn energy_edges(random: &mut Random, runs: &mut Runs, tally: &mut Tally) {
             runs.add(full_walk(random, rate, &curves), tally);
         }
         runs.add(sums(rate), tally);
+        runs.add(sums_from_places(random, rate), tally);
         runs.add(uneven_tens(rate), tally);
     }
 }
@@ -395,6 +396,31 @@ fn sums(rate: Rate) -> Script {
         let above: Vec<u16> = deviations.iter().map(|d| 50_000 + d).collect();
         script.read_all(&above);
         script.energy(&none, &some);
+    }
+    script
+}
+
+/// No. 3: "the readings from the present one to the last, and no others." The readings before a place are 50,000 and call for
+/// nothing, so that the bounds are those of the sum from the place on. Each of the others calls for more kW than the divisor, so
+/// that one reading left out or taken twice changes a bound.
+fn sums_from_places(random: &mut Random, rate: Rate) -> Script {
+    let mut script = Script::new(EDGES);
+    script.curves(&[proportional(), proportional(), proportional()]);
+    let least = rate.divisor() / 1_000 + 1;
+    let mut places = ends(rate.period()).to_vec();
+    places.push(rate.period());
+    for first in 0..places.len() {
+        for low_first in [true, false] {
+            script.read(50_000, places[first]);
+            let mut low = low_first;
+            for run in places[first..].windows(2) {
+                let deviation = random.between(least, 1_000) as u16;
+                let reading = if low { 50_000 - deviation } else { 50_000 + deviation };
+                script.read(reading, run[1] - run[0]);
+                low = !low;
+            }
+            script.energy(&Direction([1_000, 0, 0]), &Direction([0, 0, 1_000]));
+        }
     }
     script
 }

@@ -1,71 +1,65 @@
--- Sums over readings from the last one back: those over the readings from the i-th on. Assumes nothing.
+-- The loop of `sum_table`: at each step the sums from the present reading's place on. Assumes nothing.
 use mathlib.Core.Path.{_≡_, ap, _∙_}
 use mathlib.Core.List.{List, _∷_, map}
-use Prim.Native.Nat.{ℕ, suc, _+_, _-_, _*_, _^_, _≤_, _<_}
+use Prim.Native.Nat.{ℕ, _+_, _-_, _*_, _^_, _≤_, _<_}
 use native.Mathlib.Omega.{arith}
-use lib.ListN.{length, drop, getD}
-use lib.Seq.{drop-cons, drop-length}
+use lib.ListN.{length, drop, getD, length-drop}
+use lib.Seq.{drop-length}
 use Rattle.common.specs.Lists.{sum}
+use Rattle.common.proofs.Lists.{drop-next, sum-le}
 use Rattle.energy.specs.Period.{lowDeviation, highDeviation}
-use Rattle.energy.specs.Table.{tableSums}
+use Rattle.energy.specs.Table.{tableSum, tableSums, sumsFrom}
+use Rattle.energy.specs.declared.table.Sums.{Sums}
 
--- ---- any sum of numbers below 2^32
+-- ---- a direction's sum from a place on
 
-module _ (f : ℕ → ℕ) (rs : List ℕ) where
-  pub record Back (i s : ℕ) : Type 0 where
-    pub same : s ≡ sum (map f (drop i rs))
-    pub small : s ≤ 4294967295 * (length rs - i)
-
-  none-summed : Back (length rs) 0
+-- a turn: what the table has, at the deviation d, for the reading before place i makes the sum from i on that from its own place on
+module _ (deviation : ℕ → ℕ) (table rs : List ℕ) {i s d : ℕ} (same : s ≡ tableSum deviation table (drop i rs)) (h : 0 < i) (within : i ≤ length rs) (at : d ≡ deviation (getD rs (i - 1) 0)) where
+  one-more : s + getD table d 0 ≡ tableSum deviation table (drop (i - 1) rs)
   unfolding sum
-  none-summed = record { same = rw (drop-length rs); small = omega arith }
+  one-more =
+      let e : i - 1 + 1 ≡ i = omega arith in
+      let next = drop-next rs (i - 1) 0 (omega arith) in
+      omega (arith, same, ap (λ (k : ℕ). getD table k 0) at, ap (tableSum deviation table) next, ap (λ (k : ℕ). tableSum deviation table (drop k rs)) e)
 
-  module _ {i s : ℕ} (b : Back i s) (h : 0 < i) (within : i ≤ length rs) (l : f (getD rs (i - 1) 0) < 2 ^ 32) where
-    one-more : Back (i - 1) (s + f (getD rs (i - 1) 0))
-    unfolding sum
-    one-more =
-        let e : suc (i - 1) ≡ i = omega arith in
-        let d : drop (i - 1) rs ≡ getD rs (i - 1) 0 ∷ drop i rs = drop-cons rs (i - 1) 0 (omega arith) ∙ ap (λ (k : ℕ). getD rs (i - 1) 0 ∷ drop k rs) e in
-        record {
-          same = omega (arith, b .same, ap (λ (ns : List ℕ). sum (map f ns)) d);
-          small = omega (arith, b .small);
-        }
+  -- in a u64, where the entries are u32
+  one-more-fits : ((k : ℕ) → getD table k 0 < 2 ^ 32) → length rs ≤ 2 ^ 32 → s + getD table d 0 < 2 ^ 64
+  one-more-fits small count =
+      let most = sum-le (λ r. getD table (deviation r) 0) 4294967295 (λ r. omega (arith, small (deviation r))) (drop (i - 1) rs) in
+      omega (arith, one-more, most, length-drop (i - 1) rs)
 
-    pub fits : length rs ≤ 2 ^ 32 → s + f (getD rs (i - 1) 0) < 2 ^ 64
-    fits count = omega (arith, b .small)
-
-  all-summed : {i s : ℕ} → Back i s → i ≤ 0 → s ≡ sum (map f rs)
-  all-summed {i} b h = let e : i ≡ 0 = omega arith in b .same ∙ ap (λ (k : ℕ). sum (map f (drop k rs))) e
-
--- ---- the loop of `sum_table`: both directions, each by its table
-
-abbrev pub entry : (ℕ → ℕ) → List ℕ → ℕ → ℕ
-entry deviation table r = getD table (deviation r) 0
+-- ---- both directions
 
 module _ (lows highs rs : List ℕ) where
-  pub record Summed (i low high : ℕ) : Type 0 where
+  -- paper 02, No. 3: the running sums are those of the readings from place i to the last, and no others
+  pub record Running (i low high : ℕ) : Type 0 where
     pub within : i ≤ length rs
-    pub low-back : Back (entry lowDeviation lows) rs i low
-    pub high-back : Back (entry highDeviation highs) rs i high
+    pub sums : record { low = low; high = high } ≡ sumsFrom i (tableSums lows highs) rs
 
-  pub begin : Summed (length rs) 0 0
-  begin =
-      record {
-        within = omega arith;
-        low-back = none-summed (entry lowDeviation lows) rs;
-        high-back = none-summed (entry highDeviation highs) rs;
-      }
+  pub begin : Running (length rs) 0 0
+  unfolding sum
+  begin = record { within = omega arith; sums = rw (drop-length rs) }
 
-  module _ {i low high : ℕ} (s : Summed i low high) where
-    pub step : 0 < i →
-        let r = getD rs (i - 1) 0 in
-        entry lowDeviation lows r < 2 ^ 32 → entry highDeviation highs r < 2 ^ 32 → Summed (i - 1) (low + entry lowDeviation lows r) (high + entry highDeviation highs r)
-    step h l m =
-        record {
-          within = omega (arith, s .within);
-          low-back = one-more (entry lowDeviation lows) rs (s .low-back) h (s .within) l;
-          high-back = one-more (entry highDeviation highs) rs (s .high-back) h (s .within) m;
-        }
+  module _ {i low high : ℕ} (r : Running i low high) where
+    low-sum : low ≡ tableSum lowDeviation lows (drop i rs)
+    low-sum = ap (λ (s : Sums). s .low) (r .sums)
+
+    high-sum : high ≡ tableSum highDeviation highs (drop i rs)
+    high-sum = ap (λ (s : Sums). s .high) (r .sums)
+
+    module _ (h : 0 < i) {below above : ℕ} (b : below ≡ lowDeviation (getD rs (i - 1) 0)) (a : above ≡ highDeviation (getD rs (i - 1) 0)) where
+      pub low-fits : ((k : ℕ) → getD lows k 0 < 2 ^ 32) → length rs ≤ 2 ^ 32 → low + getD lows below 0 < 2 ^ 64
+      low-fits = one-more-fits lowDeviation lows rs low-sum h (r .within) b
+
+      pub high-fits : ((k : ℕ) → getD highs k 0 < 2 ^ 32) → length rs ≤ 2 ^ 32 → high + getD highs above 0 < 2 ^ 64
+      high-fits = one-more-fits highDeviation highs rs high-sum h (r .within) a
+
+      pub step : Running (i - 1) (low + getD lows below 0) (high + getD highs above 0)
+      step =
+          record {
+            within = omega (arith, r .within);
+            sums = rw (one-more lowDeviation lows rs low-sum h (r .within) b, one-more highDeviation highs rs high-sum h (r .within) a);
+          }
 
     pub done : i ≤ 0 → record { low = low; high = high } ≡ tableSums lows highs rs
-    done h = rw (all-summed (entry lowDeviation lows) rs (s .low-back) h, all-summed (entry highDeviation highs) rs (s .high-back) h)
+    done h = let e : i ≡ 0 = omega arith in r .sums ∙ ap (λ (k : ℕ). sumsFrom k (tableSums lows highs) rs) e

@@ -20,6 +20,12 @@ module _ (f : ℕ → ℕ) where
   entry-le (r ∷ rs) zero h = omega arith
   entry-le (r ∷ rs) (suc i) h = omega (arith, entry-le rs i (omega arith))
 
+  pub drop-le : (rs : List ℕ) (place : ℕ) → largest (map f (drop place rs)) ≤ largest (map f rs)
+  unfolding largest
+  drop-le rs zero = omega arith
+  drop-le [] (suc place) = omega arith
+  drop-le (r ∷ rs) (suc place) = omega (arith, drop-le rs place)
+
   -- a turn of a loop that has the largest of the first i, and its end
   module _ (rs : List ℕ) (i most : ℕ) (so-far : largest (map f rs) ≡ max most (largest (map f (drop i rs)))) where
     one-more : i < length rs → largest (map f rs) ≡ max (max most (f (getD rs i 0))) (largest (map f (drop (i + 1) rs)))

@@ -1,39 +1,49 @@
 -- A period's sums, by table and by response, and the answer that they give. Assumes nothing.
 use mathlib.Core.Path.{_≡_, refl, ap}
 use mathlib.Core.Bool.{true, false, _||_}
-use mathlib.Core.List.{List, [], _∷_, map}
+use mathlib.Core.List.{List, [], _∷_}
 use Prim.Native.Nat.{ℕ, _+_, _*_, _≤_}
 use native.Mathlib.Nat.{mul-le-mul-right}
 use native.Mathlib.Omega.{arith}
 use lib.Dec.{leb, ltb}
-use lib.ListN.{length, getD, replicate}
+use lib.ListN.{length, drop, replicate}
 use Rattle.common.specs.Answer.{refused, cause, checked}
 use Rattle.common.specs.Lists.{sum}
 use Rattle.common.proofs.Tests.{not-leb, not-both}
 use Rattle.terms.specs.Terms.{Q}
 use Rattle.terms.specs.declared.Quantities.{Quantities}
 use Rattle.energy.specs.Curve.{curvesRule}
-use Rattle.energy.specs.Period.{goodReadings, lowDeviation, highDeviation, responses, boundsOf, BeforeReadings, fromReadings}
+use Rattle.energy.specs.Period.{goodReadings, lowDeviation, highDeviation, responses, responseSum, boundsOf, BeforeReadings, fromReadings}
 use Rattle.energy.specs.Rate.{isPeriodCount}
-use Rattle.energy.specs.Table.{largest, largestDeviation, largestDeviations, Added, DirectionFits, tableSum, tableSums, Covered, responseSums, WithinRange}
+use Rattle.energy.specs.Table.{largest, largestDeviation, largestDeviations, Added, DirectionFits, tableSum, tableSums, Covered, responseSums, WithinRange, HasResponses, RunningSums}
 use Rattle.energy.specs.declared.curve.Curves.{Curves}
 use Rattle.energy.specs.declared.table.Deviations.{Deviations}
 use Rattle.energy.specs.declared.table.Sums.{Sums}
-use Rattle.energy.proofs.Largest.{every-within}
+use Rattle.energy.proofs.Largest.{drop-le, every-within}
 use Rattle.energy.proofs.Responses.{response-sum-le}
 use Rattle.energy.proofs.Tables.{zeros-at}
 
--- where a table of zeros got f up to the largest deviation
-by-table : (deviation f : ℕ → ℕ) (n : ℕ) {most : ℕ} (table : List ℕ) → Added 0 (most + 1) f (replicate n 0) table →
-    (rs : List ℕ) → largestDeviation deviation rs ≤ most →
-    tableSum deviation table rs ≡ sum (map (λ (r : ℕ). f (deviation r)) rs)
+-- by a table that has a direction's responses up to the largest deviation
+by-table : (deviation : ℕ → ℕ) (q : Quantities) (cs : Curves) {most : ℕ} (table : List ℕ) → HasResponses q cs most table →
+    (rs : List ℕ) → largestDeviation deviation rs ≤ most → tableSum deviation table rs ≡ responseSum deviation q cs rs
 unfolding sum largest
-by-table deviation f n table a [] h = refl
-by-table deviation f n table a (r ∷ rs) h =
-    let e : getD table (deviation r) 0 ≡ f (deviation r) = omega (arith, a .inside (deviation r) (omega arith) (omega arith), zeros-at n (deviation r)) in
-    rw (e, by-table deviation f n table a rs (omega arith))
+by-table deviation q cs table has [] h = refl
+by-table deviation q cs table has (r ∷ rs) h = rw (has (deviation r) (omega arith), by-table deviation q cs table has rs (omega arith))
+
+-- as has a table of zeros to which they were added
+has-responses : (q : Quantities) (cs : Curves) (n : ℕ) {most : ℕ} (table : List ℕ) → Added 0 (most + 1) (responses q cs) (replicate n 0) table →
+    {less : ℕ} → less ≤ most → HasResponses q cs less table
+has-responses q cs n table a l d h = omega (arith, a .inside d (omega arith) (omega arith), zeros-at n d)
 
 -- ---- both directions
+
+-- paper 02, No. 3
+pub running-sums : RunningSums
+running-sums low high cs lows highs rs l m place =
+    rw (
+      by-table lowDeviation low cs lows l (drop place rs) (drop-le lowDeviation rs place),
+      by-table highDeviation high cs highs m (drop place rs) (drop-le highDeviation rs place),
+    )
 
 -- a table of zeros has room for a direction
 pub zeros-fit : (q : Quantities) (cs : Curves) (most : ℕ) → Q q ≤ 1000 → curvesRule cs ≡ true → most ≤ 3000 → DirectionFits q cs most (replicate 3001 0)
@@ -66,7 +76,7 @@ module _ {most : Deviations} {rs : List ℕ} (h : WithinRange most rs) where
         Added 0 (most .high + 1) (responses high cs) (replicate n 0) highs →
         tableSums lows highs rs ≡ responseSums low high cs rs
     same-sums n low high cs a b =
-        rw (by-table lowDeviation (responses low cs) n lows a rs low-le, by-table highDeviation (responses high cs) n highs b rs high-le)
+        running-sums low high cs lows highs rs (has-responses low cs n lows a low-le) (has-responses high cs n highs b high-le) 0
 
 -- ---- the answer
 

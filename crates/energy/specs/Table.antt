@@ -1,15 +1,15 @@
--- What the private functions of table.rt ask and make: a period's energy by a table of responses for each direction. Assumes
--- nothing.
+-- What the private functions of table.rt ask and make: a period's energy by a table of responses for each direction; and paper 02,
+-- No. 3: the sums from the last reading back. Assumes nothing.
 use mathlib.Core.Path.{_≡_}
 use mathlib.Core.Bool.{true}
 use mathlib.Core.List.{List, [], _∷_, map}
 use Prim.Native.Nat.{ℕ, _+_, _-_, _*_, _/_, _^_, _≤_, _<_, max}
-use lib.ListN.{length, getD}
+use lib.ListN.{length, getD, drop}
 use Rattle.common.specs.Lists.{sum}
 use Rattle.terms.specs.Terms.{Q}
 use Rattle.terms.specs.declared.Quantities.{Quantities}
 use Rattle.energy.specs.Curve.{curveRule, curvesRule}
-use Rattle.energy.specs.Period.{lowDeviation, highDeviation, responseSum}
+use Rattle.energy.specs.Period.{lowDeviation, highDeviation, responses, responseSum}
 use Rattle.energy.specs.declared.curve.Point.{Point}
 use Rattle.energy.specs.declared.curve.Curve.{Curve}
 use Rattle.energy.specs.declared.curve.Curves.{Curves}
@@ -100,3 +100,22 @@ pub record WithinRange (most : Deviations) (rs : List ℕ) : Type 0 where
   pub low-most : most .low ≤ 3000
   pub high-most : most .high ≤ 3000
   pub count-most : length rs ≤ 2 ^ 32
+
+-- ---- the sums from the last reading back
+
+-- the sums from a place on, places counted from 0: those of the readings from the one at that place to the last, and no others.
+-- The loop of `sum_table` has them by its tables at each step, at the place of the present reading.
+abbrev pub sumsFrom : ℕ → (List ℕ → Sums) → List ℕ → Sums
+sumsFrom place sums rs = sums (drop place rs)
+
+-- a table has a direction's responses to the deviations up to some
+abbrev pub HasResponses : Quantities → Curves → ℕ → List ℕ → Type 0
+HasResponses q cs most table = (d : ℕ) → d ≤ most → getD table d 0 ≡ responses q cs d
+
+-- by such tables they are, from each place on, the sums over readings and services of 01
+abbrev pub RunningSums : Type 0
+RunningSums =
+    (low high : Quantities) (cs : Curves) (lows highs rs : List ℕ) →
+    HasResponses low cs (largestDeviation lowDeviation rs) lows →
+    HasResponses high cs (largestDeviation highDeviation rs) highs →
+    (place : ℕ) → sumsFrom place (tableSums lows highs) rs ≡ sumsFrom place (responseSums low high cs) rs

@@ -139,8 +139,8 @@ fn high_deviation(reading: u32) -> u32
     if 50000 < reading { reading - 50000 } else { 0 }
 }
 
-// What the tables have for the readings, from the last reading back. One deviation is tested for and the other is what is left:
-// two tests of a u16 become 16-bit code, which took three times as long.
+// What the tables have for the readings, from the last reading back (paper 02, No. 3). One deviation is tested for and the other is
+// what is left: two tests of a u16 become 16-bit code, which took three times as long.
 fn sum_table(lows: &[u32], highs: &[u32], readings: &[u16]) -> Sums
     requires { ⌜ Covered (now lows) (now highs) (now readings) ⌝ }
     ensures { λ r. ⌜ r ≡ tableSums (now (lows .entry)) (now (highs .entry)) (now (readings .entry)) ⌝ }
@@ -148,13 +148,14 @@ fn sum_table(lows: &[u32], highs: &[u32], readings: &[u16]) -> Sums
     let mut low: u64 = 0;
     let mut high: u64 = 0;
     let mut i = readings.len();
+    // `low` and `high` are the sums from place i on, `sumsFrom i` (specs/Table): the invariant `Running` (proofs/Backward)
     while 0 < i {
-        i -= 1;
-        let reading = readings[i] as u32;
+        let reading = readings[i - 1] as u32;
         let above = high_deviation(reading);
         let below = 50000 + above - reading;
         low += lows[below as usize] as u64;
         high += highs[above as usize] as u64;
+        i -= 1;
     }
     Sums { low, high }
 }

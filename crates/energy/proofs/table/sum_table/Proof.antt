@@ -1,17 +1,18 @@
--- `energy::table::sum_table` meets its contract. The loop's invariant is `Summed`. Assumes nothing.
+-- `energy::table::sum_table` meets its contract. The loop's invariant is `Running`: the running sums are `sumsFrom` the present
+-- reading's place. Assumes nothing.
 use mathlib.Core.Path.{_≡_}
 use Prim.Native.Nat.{ℕ, _+_, _-_, _^_, _<_}
 use native.Mathlib.Omega.{arith}
 use borrow.Author.Needs.{needs}
 use lib.ListN.{length, getD}
 use Rattle.energy.specs.Period.{lowDeviation, highDeviation}
-use Rattle.energy.proofs.Backward.{Summed, entry, begin, fits, step, done}
+use Rattle.energy.proofs.Backward.{Running, begin, low-fits, high-fits, step, done}
 use Rattle.energy.proofs.Largest.{entry-le}
 use Rattle.energy.proofs.table.sum_table.Statement.{statement}
 use Rattle.energy.proofs.table.sum_table.Tie as tie
 
 abbrev Inv-loop : tie.InvT-loop
-Inv-loop lows highs readings low₀ high₀ i₀ low high i = Summed lows highs readings i low high
+Inv-loop lows highs readings low₀ high₀ i₀ low high i = Running lows highs readings i low high
 
 abbrev μ-loop : tie.MeasureT-loop
 μ-loop lows highs readings low₀ high₀ i₀ low high i = i
@@ -26,31 +27,34 @@ reading t = getD (start (t .before) .args .readings .now) (t .before .loop .i - 
 within : (t : tie.In-loop Inv-loop μ-loop) → t .before .loop .i - 1 < length (start (t .before) .args .readings .now)
 within t = omega (arith, t .loop-test .taken, t .before .loop .inv .within)
 
-low-is : (c : tie.After-high-deviation Inv-loop μ-loop) → 50000 + c .high-deviation .result - reading (c .before .before) ≡ lowDeviation (reading (c .before .before))
-low-is c = omega (arith, c .high-deviation .ensures)
-
 low-there : (t : tie.In-loop Inv-loop μ-loop) → lowDeviation (reading t) < length (start (t .before) .args .lows .now)
 low-there t = let s = start (t .before) in omega (arith, entry-le lowDeviation (s .args .readings .now) (t .before .loop .i - 1) (within t), s .pre .low-there)
 
 high-there : (t : tie.In-loop Inv-loop μ-loop) → highDeviation (reading t) < length (start (t .before) .args .highs .now)
 high-there t = let s = start (t .before) in omega (arith, entry-le highDeviation (s .args .readings .now) (t .before .loop .i - 1) (within t), s .pre .high-there)
 
--- what is read there is below 2^32
-low-small : (c : tie.After-shared-slice-known5 Inv-loop μ-loop) →
-    let t = c .before .before .before in
-    entry lowDeviation (start (t .before) .args .lows .now) (reading t) < 2 ^ 32
-low-small c = omega (arith, c .shared-slice-known5 .given (lowDeviation (reading (c .before .before .before))))
+-- once both deviations are known
+abbrev turn : tie.After-high-deviation Inv-loop μ-loop → tie.In-loop Inv-loop μ-loop
+turn h = h .before .before
 
-high-small : (c : tie.After-shared-slice-known6 Inv-loop μ-loop) →
-    let t = c .before .before .before .before in
-    entry highDeviation (start (t .before) .args .highs .now) (reading t) < 2 ^ 32
-high-small c = omega (arith, c .shared-slice-known6 .given (highDeviation (reading (c .before .before .before .before))))
+reading-small : (h : tie.After-high-deviation Inv-loop μ-loop) → reading (turn h) < 2 ^ 16
+reading-small h = omega (arith, h .before .shared-slice-known4 .given (turn h .before .loop .i - 1))
+
+below-is : (h : tie.After-high-deviation Inv-loop μ-loop) → 50000 + h .high-deviation .result - reading (turn h) ≡ lowDeviation (reading (turn h))
+below-is h = omega (arith, h .high-deviation .ensures)
+
+-- once the tables are read: every entry is below 2^32
+lows-small : (l : tie.After-shared-slice-known5 Inv-loop μ-loop) (d : ℕ) → getD (start (turn (l .before) .before) .args .lows .now) d 0 < 2 ^ 32
+lows-small l d = omega (arith, l .shared-slice-known5 .given d)
+
+highs-small : (g : tie.After-shared-slice-known6 Inv-loop μ-loop) (d : ℕ) → getD (start (turn (g .before .before) .before) .args .highs .now) d 0 < 2 ^ 32
+highs-small g d = omega (arith, g .shared-slice-known6 .given d)
 
 loop-holds : tie.Need-loop-holds Inv-loop μ-loop
 loop-holds c = begin _ _ _
 
-sub-i : tie.Need-sub-i Inv-loop μ-loop
-sub-i c = omega (arith, c .loop-test .taken)
+sub-reading : tie.Need-sub-reading Inv-loop μ-loop
+sub-reading c = omega (arith, c .loop-test .taken)
 
 mul-reading : tie.Need-mul-reading Inv-loop μ-loop
 mul-reading c = omega (arith, within c, start (c .before) .pre .count-most)
@@ -65,56 +69,58 @@ high-deviation-requires : tie.Need-high-deviation-requires Inv-loop μ-loop
 high-deviation-requires c κs = search needs
 
 add-below : tie.Need-add-below Inv-loop μ-loop
-add-below c = omega (arith, c .high-deviation .ensures, c .before .shared-slice-known4 .given (c .before .before .before .loop .i - 1))
+add-below c = omega (arith, c .high-deviation .ensures, reading-small c)
 
 sub-below : tie.Need-sub-below Inv-loop μ-loop
 sub-below c = omega (arith, c .high-deviation .ensures)
 
 cast-low : tie.Need-cast-low Inv-loop μ-loop
-cast-low c = omega (arith, low-is c)
+cast-low c = omega (arith, below-is c)
 
 mul-low : tie.Need-mul-low Inv-loop μ-loop
-mul-low c = omega (arith, low-is c)
+mul-low c = omega (arith, below-is c)
 
 shared-slice-read-low : tie.Need-shared-slice-read-low Inv-loop μ-loop
-shared-slice-read-low c = rw (low-is (c .before)) (low-there (c .before .before .before))
+shared-slice-read-low c = rw (below-is (c .before)) (low-there (turn (c .before)))
 
 cast-low-2 : tie.Need-cast-low-2 Inv-loop μ-loop
-cast-low-2 c = rw (low-is (c .before)) (omega (arith, low-small c))
+cast-low-2 c = rw (below-is (c .before)) (omega (arith, lows-small c (lowDeviation (reading (turn (c .before))))))
 
 add-low : tie.Need-add-low Inv-loop μ-loop
 add-low c =
-    let t = c .before .before .before in
-    let i = t .before .loop .inv in
-    rw (low-is (c .before)) (record { fits = fits _ _ (i .low-back) (t .loop-test .taken) (i .within) (low-small c) (start (t .before) .pre .count-most) })
+    let h = c .before in
+    let t = turn h in
+    record { fits = low-fits _ _ _ (t .before .loop .inv) (t .loop-test .taken) (below-is h) (h .high-deviation .ensures) (lows-small c) (start (t .before) .pre .count-most) }
 
 cast-high : tie.Need-cast-high Inv-loop μ-loop
-cast-high c = omega (arith, c .before .high-deviation .ensures, c .before .before .shared-slice-known4 .given (c .before .before .before .before .loop .i - 1))
+cast-high c = omega (arith, c .before .high-deviation .ensures, reading-small (c .before))
 
 mul-high : tie.Need-mul-high Inv-loop μ-loop
-mul-high c = omega (arith, c .before .high-deviation .ensures, c .before .before .shared-slice-known4 .given (c .before .before .before .before .loop .i - 1))
+mul-high c = omega (arith, c .before .high-deviation .ensures, reading-small (c .before))
 
 shared-slice-read-high : tie.Need-shared-slice-read-high Inv-loop μ-loop
-shared-slice-read-high c = let h = c .before .before in rw (h .high-deviation .ensures) (high-there (h .before .before))
+shared-slice-read-high c = let h = c .before .before in rw (h .high-deviation .ensures) (high-there (turn h))
 
 cast-high-2 : tie.Need-cast-high-2 Inv-loop μ-loop
-cast-high-2 c = rw (c .before .before .high-deviation .ensures) (omega (arith, high-small c))
+cast-high-2 c = let h = c .before .before in rw (h .high-deviation .ensures) (omega (arith, highs-small c (highDeviation (reading (turn h)))))
 
 add-high : tie.Need-add-high Inv-loop μ-loop
 add-high c =
     let h = c .before .before in
-    let t = h .before .before in
-    let i = t .before .loop .inv in
-    rw (h .high-deviation .ensures) (record { fits = fits _ _ (i .high-back) (t .loop-test .taken) (i .within) (high-small c) (start (t .before) .pre .count-most) })
+    let t = turn h in
+    record { fits = high-fits _ _ _ (t .before .loop .inv) (t .loop-test .taken) (below-is h) (h .high-deviation .ensures) (highs-small c) (start (t .before) .pre .count-most) }
+
+sub-i : tie.Need-sub-i Inv-loop μ-loop
+sub-i c = omega (arith, turn (c .before .before) .loop-test .taken)
 
 loop-less : tie.Need-loop-less Inv-loop μ-loop
-loop-less c = let t = c .before .before .before .before in omega (arith, t .loop-test .taken)
+loop-less c = omega (arith, turn (c .before .before) .loop-test .taken)
 
 loop-again : tie.Need-loop-again Inv-loop μ-loop
 loop-again c =
     let h = c .before .before in
-    let t = h .before .before in
-    rw (low-is h, h .high-deviation .ensures) (step _ _ _ (t .before .loop .inv) (t .loop-test .taken) (low-small (c .before)) (high-small c))
+    let t = turn h in
+    step _ _ _ (t .before .loop .inv) (t .loop-test .taken) (below-is h) (h .high-deviation .ensures)
 
 returns : tie.Need-returns Inv-loop μ-loop
 returns c = done _ _ _ (c .before .loop .inv) (c .loop-test .left)
@@ -126,7 +132,7 @@ sum-table-spec =
     Inv-loop
     μ-loop
     loop-holds
-    sub-i
+    sub-reading
     mul-reading
     shared-slice-read-reading
     cast-reading
@@ -143,6 +149,7 @@ sum-table-spec =
     shared-slice-read-high
     cast-high-2
     add-high
+    sub-i
     loop-less
     loop-again
     returns)
