@@ -20,12 +20,15 @@ abbrev μ-loop : tie.MeasureT-loop
 abbrev start : tie.At-loop Inv-loop μ-loop → tie.Start Inv-loop μ-loop
 start l = l .before .before .before .before
 
--- in a turn: the reading, where it stands, and the two deviations
+-- in a turn: a reading is left; it, where it stands, and the two deviations
+one-left : (t : tie.In-loop Inv-loop μ-loop) → 0 < t .before .loop .i
+one-left t = omega (arith, t .loop-test .taken)
+
 abbrev reading : tie.In-loop Inv-loop μ-loop → ℕ
 reading t = getD (start (t .before) .args .readings .now) (t .before .loop .i - 1) 0
 
 within : (t : tie.In-loop Inv-loop μ-loop) → t .before .loop .i - 1 < length (start (t .before) .args .readings .now)
-within t = omega (arith, t .loop-test .taken, t .before .loop .inv .within)
+within t = omega (arith, one-left t, t .before .loop .inv .within)
 
 low-there : (t : tie.In-loop Inv-loop μ-loop) → lowDeviation (reading t) < length (start (t .before) .args .lows .now)
 low-there t = let s = start (t .before) in omega (arith, entry-le lowDeviation (s .args .readings .now) (t .before .loop .i - 1) (within t), s .pre .low-there)
@@ -54,13 +57,13 @@ loop-holds : tie.Need-loop-holds Inv-loop μ-loop
 loop-holds c = begin _ _ _
 
 sub-reading : tie.Need-sub-reading Inv-loop μ-loop
-sub-reading c = omega (arith, c .loop-test .taken)
+sub-reading c = omega (arith, one-left c)
 
 mul-reading : tie.Need-mul-reading Inv-loop μ-loop
 mul-reading c = omega (arith, within c, start (c .before) .pre .count-most)
 
 shared-slice-read-reading : tie.Need-shared-slice-read-reading Inv-loop μ-loop
-shared-slice-read-reading c = within (c .before)
+shared-slice-read-reading c = omega (arith, within (c .before))
 
 cast-reading : tie.Need-cast-reading Inv-loop μ-loop
 cast-reading c = omega (arith, c .shared-slice-known4 .given (c .before .before .loop .i - 1))
@@ -90,7 +93,7 @@ add-low : tie.Need-add-low Inv-loop μ-loop
 add-low c =
     let h = c .before in
     let t = turn h in
-    record { fits = low-fits _ _ _ (t .before .loop .inv) (t .loop-test .taken) (below-is h) (h .high-deviation .ensures) (lows-small c) (start (t .before) .pre .count-most) }
+    record { fits = low-fits _ _ _ (t .before .loop .inv) (one-left t) (below-is h) (h .high-deviation .ensures) (lows-small c) (start (t .before) .pre .count-most) }
 
 cast-high : tie.Need-cast-high Inv-loop μ-loop
 cast-high c = omega (arith, c .before .high-deviation .ensures, reading-small (c .before))
@@ -108,22 +111,22 @@ add-high : tie.Need-add-high Inv-loop μ-loop
 add-high c =
     let h = c .before .before in
     let t = turn h in
-    record { fits = high-fits _ _ _ (t .before .loop .inv) (t .loop-test .taken) (below-is h) (h .high-deviation .ensures) (highs-small c) (start (t .before) .pre .count-most) }
+    record { fits = high-fits _ _ _ (t .before .loop .inv) (one-left t) (below-is h) (h .high-deviation .ensures) (highs-small c) (start (t .before) .pre .count-most) }
 
 sub-i : tie.Need-sub-i Inv-loop μ-loop
-sub-i c = omega (arith, turn (c .before .before) .loop-test .taken)
+sub-i c = omega (arith, one-left (turn (c .before .before)))
 
 loop-less : tie.Need-loop-less Inv-loop μ-loop
-loop-less c = omega (arith, turn (c .before .before) .loop-test .taken)
+loop-less c = omega (arith, one-left (turn (c .before .before)))
 
 loop-again : tie.Need-loop-again Inv-loop μ-loop
 loop-again c =
     let h = c .before .before in
     let t = turn h in
-    step _ _ _ (t .before .loop .inv) (t .loop-test .taken) (below-is h) (h .high-deviation .ensures)
+    step _ _ _ (t .before .loop .inv) (one-left t) (below-is h) (h .high-deviation .ensures)
 
 returns : tie.Need-returns Inv-loop μ-loop
-returns c = done _ _ _ (c .before .loop .inv) (c .loop-test .left)
+returns c = done _ _ _ (c .before .loop .inv) (omega (arith, c .loop-test .left))
 
 pub sum-table-spec : {M : Type 1} → statement M
 sum-table-spec =
