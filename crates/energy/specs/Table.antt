@@ -103,16 +103,16 @@ pub record WithinRange (most : Deviations) (rs : List ℕ) : Type 0 where
 
 -- ---- the sums from the last reading back
 
--- the sums from a place on, places counted from 0: those of the readings from the one at that place to the last, and no others.
--- The loop of `sum_table` has them by its tables at each step, at the place of the present reading.
+-- the sums from a place on, counted from 0: those of the readings from the one at that place to the last, and no others. By its
+-- tables the loop of `sum_table` has them at each step, from the present reading's place on.
 abbrev pub sumsFrom : ℕ → (List ℕ → Sums) → List ℕ → Sums
 sumsFrom place sums rs = sums (drop place rs)
 
--- a table has a direction's responses to the deviations up to some
+-- a table has a direction's response to each deviation up to `most`
 abbrev pub HasResponses : Quantities → Curves → ℕ → List ℕ → Type 0
 HasResponses q cs most table = (d : ℕ) → d ≤ most → getD table d 0 ≡ responses q cs d
 
--- by such tables they are, from each place on, the sums over readings and services of 01
+-- by such tables they are, from each place on, the sums over readings and services that 01 speaks of
 abbrev pub RunningSums : Type 0
 RunningSums =
     (low high : Quantities) (cs : Curves) (lows highs rs : List ℕ) →
