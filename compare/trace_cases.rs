@@ -410,14 +410,12 @@ fn sums_from_places(random: &mut Random, rate: Rate) -> Script {
     let mut places = ends(rate.period()).to_vec();
     places.push(rate.period());
     for first in 0..places.len() {
-        for low_first in [true, false] {
+        for swapped in 0..2 {
             script.read(50_000, places[first]);
-            let mut low = low_first;
-            for run in places[first..].windows(2) {
+            for (n, run) in places[first..].windows(2).enumerate() {
                 let deviation = random.between(least, 1_000) as u16;
-                let reading = if low { 50_000 - deviation } else { 50_000 + deviation };
-                script.read(reading, run[1] - run[0]);
-                low = !low;
+                let sides = [50_000 - deviation, 50_000 + deviation];
+                script.read(sides[(n + swapped) % 2], run[1] - run[0]);
             }
             script.energy(&Direction([1_000, 0, 0]), &Direction([0, 0, 1_000]));
         }

@@ -1,7 +1,7 @@
 -- The loop of `sum_table`: at each step the sums from the present reading's place on. Assumes nothing.
 use mathlib.Core.Path.{_≡_, ap, _∙_}
-use mathlib.Core.List.{List, _∷_, map}
-use Prim.Native.Nat.{ℕ, _+_, _-_, _*_, _^_, _≤_, _<_}
+use mathlib.Core.List.{List}
+use Prim.Native.Nat.{ℕ, _+_, _-_, _^_, _≤_, _<_}
 use native.Mathlib.Omega.{arith}
 use lib.ListN.{length, drop, getD, length-drop}
 use lib.Seq.{drop-length}
@@ -13,20 +13,22 @@ use Rattle.energy.specs.declared.table.Sums.{Sums}
 
 -- ---- a direction's sum from a place on
 
--- a turn: what the table has, at the deviation d, for the reading before place i makes the sum from i on that from its own place on
-module _ (deviation : ℕ → ℕ) (table rs : List ℕ) {i s d : ℕ} (same : s ≡ tableSum deviation table (drop i rs)) (h : 0 < i) (within : i ≤ length rs) (at : d ≡ deviation (getD rs (i - 1) 0)) where
-  one-more : s + getD table d 0 ≡ tableSum deviation table (drop (i - 1) rs)
-  unfolding sum
-  one-more =
-      let e : i - 1 + 1 ≡ i = omega arith in
-      let next = drop-next rs (i - 1) 0 (omega arith) in
-      omega (arith, same, ap (λ (k : ℕ). getD table k 0) at, ap (tableSum deviation table) next, ap (λ (k : ℕ). tableSum deviation table (drop k rs)) e)
+module _ (deviation : ℕ → ℕ) (table rs : List ℕ) where
+  -- a turn: the sum from place i on, and what the table has for the reading before it, whose deviation is d
+  module _ {i s d : ℕ} (same : s ≡ tableSum deviation table (drop i rs)) (h : 0 < i) (within : i ≤ length rs) (at : d ≡ deviation (getD rs (i - 1) 0)) where
+    -- make the sum from that reading's place on
+    one-more : s + getD table d 0 ≡ tableSum deviation table (drop (i - 1) rs)
+    unfolding sum
+    one-more =
+        let e : i - 1 + 1 ≡ i = omega arith in
+        let next = drop-next rs (i - 1) 0 (omega arith) in
+        omega (arith, same, ap (λ (k : ℕ). getD table k 0) at, ap (tableSum deviation table) next, ap (λ (k : ℕ). tableSum deviation table (drop k rs)) e)
 
-  -- in a u64, where the entries are u32
-  one-more-fits : ((k : ℕ) → getD table k 0 < 2 ^ 32) → length rs ≤ 2 ^ 32 → s + getD table d 0 < 2 ^ 64
-  one-more-fits small count =
-      let most = sum-le (λ r. getD table (deviation r) 0) 4294967295 (λ r. omega (arith, small (deviation r))) (drop (i - 1) rs) in
-      omega (arith, one-more, most, length-drop (i - 1) rs)
+    -- and fit a u64, where the entries are u32
+    one-more-fits : ((k : ℕ) → getD table k 0 < 2 ^ 32) → length rs ≤ 2 ^ 32 → s + getD table d 0 < 2 ^ 64
+    one-more-fits small count =
+        let most = sum-le (λ r. getD table (deviation r) 0) 4294967295 (λ r. omega (arith, small (deviation r))) (drop (i - 1) rs) in
+        omega (arith, one-more, most, length-drop (i - 1) rs)
 
 -- ---- both directions
 

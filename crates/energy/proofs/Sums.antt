@@ -30,7 +30,7 @@ unfolding sum largest
 by-table deviation q cs table has [] h = refl
 by-table deviation q cs table has (r ∷ rs) h = rw (has (deviation r) (omega arith), by-table deviation q cs table has rs (omega arith))
 
--- as has a table of zeros to which they were added
+-- a table of zeros to which they were added has them
 has-responses : (q : Quantities) (cs : Curves) (n : ℕ) {most : ℕ} (table : List ℕ) → Added 0 (most + 1) (responses q cs) (replicate n 0) table →
     {less : ℕ} → less ≤ most → HasResponses q cs less table
 has-responses q cs n table a l d h = omega (arith, a .inside d (omega arith) (omega arith), zeros-at n d)
