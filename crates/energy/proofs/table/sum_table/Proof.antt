@@ -1,5 +1,5 @@
--- `energy::table::sum_table` meets its contract. The loop's invariant is `Running`: the running sums are `sumsFrom` the present
--- reading's place. Assumes nothing.
+-- `energy::table::sum_table` meets its contract. The loop's invariant is `Running`: the running sums are
+-- `sumsFrom i (tableSums lows highs) readings`. Assumes nothing.
 use mathlib.Core.Path.{_≡_}
 use Prim.Native.Nat.{ℕ, _+_, _-_, _^_, _<_}
 use native.Mathlib.Omega.{arith}
