@@ -6,6 +6,7 @@ use native.Mathlib.Omega.{arith}
 use borrow.Author.Needs.{needs}
 use lib.ListN.{length, getD}
 use Rattle.energy.specs.Period.{lowDeviation, highDeviation}
+use Rattle.energy.specs.Table.{largestDeviation}
 use Rattle.energy.proofs.Backward.{Running, begin, low-fits, high-fits, step, done}
 use Rattle.energy.proofs.Largest.{entry-le}
 use Rattle.energy.proofs.table.sum_table.Statement.{statement}
@@ -20,7 +21,7 @@ abbrev μ-loop : tie.MeasureT-loop
 abbrev start : tie.At-loop Inv-loop μ-loop → tie.Start Inv-loop μ-loop
 start l = l .before .before .before .before
 
--- in a turn: a reading is left; it, where it stands, and the two deviations
+-- in a turn: a reading is left, and where it stands
 one-left : (t : tie.In-loop Inv-loop μ-loop) → 0 < t .before .loop .i
 one-left t = omega (arith, t .loop-test .taken)
 
@@ -30,11 +31,9 @@ reading t = getD (start (t .before) .args .readings .now) (t .before .loop .i - 
 within : (t : tie.In-loop Inv-loop μ-loop) → t .before .loop .i - 1 < length (start (t .before) .args .readings .now)
 within t = omega (arith, one-left t, t .before .loop .inv .within)
 
-low-there : (t : tie.In-loop Inv-loop μ-loop) → lowDeviation (reading t) < length (start (t .before) .args .lows .now)
-low-there t = let s = start (t .before) in omega (arith, entry-le lowDeviation (s .args .readings .now) (t .before .loop .i - 1) (within t), s .pre .low-there)
-
-high-there : (t : tie.In-loop Inv-loop μ-loop) → highDeviation (reading t) < length (start (t .before) .args .highs .now)
-high-there t = let s = start (t .before) in omega (arith, entry-le highDeviation (s .args .readings .now) (t .before .loop .i - 1) (within t), s .pre .high-there)
+-- its deviation stands in a table that has the largest
+there : (deviation : ℕ → ℕ) {n : ℕ} (t : tie.In-loop Inv-loop μ-loop) → largestDeviation deviation (start (t .before) .args .readings .now) < n → deviation (reading t) < n
+there deviation t long = omega (arith, entry-le deviation (start (t .before) .args .readings .now) (t .before .loop .i - 1) (within t), long)
 
 -- once both deviations are known
 abbrev turn : tie.After-high-deviation Inv-loop μ-loop → tie.In-loop Inv-loop μ-loop
@@ -84,7 +83,7 @@ mul-low : tie.Need-mul-low Inv-loop μ-loop
 mul-low c = omega (arith, below-is c)
 
 shared-slice-read-low : tie.Need-shared-slice-read-low Inv-loop μ-loop
-shared-slice-read-low c = rw (below-is (c .before)) (low-there (turn (c .before)))
+shared-slice-read-low c = let t = turn (c .before) in rw (below-is (c .before)) (there lowDeviation t (start (t .before) .pre .low-there))
 
 cast-low-2 : tie.Need-cast-low-2 Inv-loop μ-loop
 cast-low-2 c = rw (below-is (c .before)) (omega (arith, lows-small c (lowDeviation (reading (turn (c .before))))))
@@ -102,7 +101,10 @@ mul-high : tie.Need-mul-high Inv-loop μ-loop
 mul-high c = omega (arith, c .before .high-deviation .ensures, reading-small (c .before))
 
 shared-slice-read-high : tie.Need-shared-slice-read-high Inv-loop μ-loop
-shared-slice-read-high c = let h = c .before .before in rw (h .high-deviation .ensures) (high-there (turn h))
+shared-slice-read-high c =
+    let h = c .before .before in
+    let t = turn h in
+    rw (h .high-deviation .ensures) (there highDeviation t (start (t .before) .pre .high-there))
 
 cast-high-2 : tie.Need-cast-high-2 Inv-loop μ-loop
 cast-high-2 c = let h = c .before .before in rw (h .high-deviation .ensures) (omega (arith, highs-small c (highDeviation (reading (turn h)))))
