@@ -1,7 +1,7 @@
 -- Sums and tests over lists, and entries placed in a list. Assumes nothing.
 use mathlib.Core.Bool.{Bool, true, false, cond, _&&_, _||_}
 use mathlib.Core.List.{List, [], _∷_}
-use Prim.Native.Nat.{ℕ, _+_}
+use Prim.Native.Nat.{ℕ, suc, _+_}
 use lib.Dec.{leb}
 use lib.ListN.{length}
 use lib.Seq.{paste}
@@ -13,6 +13,11 @@ sum (n ∷ ns) = n + sum ns
 unfoldable pub every : {A : Type 0} → (A → Bool) → List A → Bool
 every holds [] = true
 every holds (x ∷ xs) = holds x && every holds xs
+
+-- each entry passes a test that is given its place too, counted from `at`
+unfoldable pub everyFrom : {A : Type 0} → ℕ → (ℕ → A → Bool) → List A → Bool
+everyFrom at holds [] = true
+everyFrom at holds (x ∷ xs) = holds at x && everyFrom (suc at) holds xs
 
 unfoldable pub someEntry : {A : Type 0} → (A → Bool) → List A → Bool
 someEntry holds [] = false

@@ -1,4 +1,5 @@
 pub mod Block
+pub mod Containment
 pub mod Curve
 pub mod Period
 pub mod Rate

@@ -8,6 +8,7 @@ use lib.ListN.{length, getD, drop}
 use Rattle.common.specs.Lists.{sum}
 use Rattle.terms.specs.Terms.{Q}
 use Rattle.terms.specs.declared.Quantities.{Quantities}
+use Rattle.energy.specs.Containment.{tableRule}
 use Rattle.energy.specs.Curve.{curveRule, curvesRule}
 use Rattle.energy.specs.Period.{lowDeviation, highDeviation, responses, responseSum}
 use Rattle.energy.specs.declared.curve.Point.{Point}
@@ -66,6 +67,14 @@ pub record SegmentFits (factor : ℕ) (p q : Point) (end : ℕ) (table : List �
 pub record ServiceFits (factor : ℕ) (c : Curve) (end : ℕ) (table : List ℕ) : Type 0 where
   pub factor-most : factor ≤ 1000000
   pub rule : curveRule c ≡ true
+  pub there : end ≤ length table
+  pub room : Room (1000 * factor) table
+
+-- `fill_by_entries`: a table of the stock containment curve that has the entries, and room for the same
+pub record EntriesFit (factor : ℕ) (entries : List ℕ) (end : ℕ) (table : List ℕ) : Type 0 where
+  pub factor-most : factor ≤ 1000000
+  pub rule : tableRule entries ≡ true
+  pub has : end ≤ 501
   pub there : end ≤ length table
   pub room : Room (1000 * factor) table
 

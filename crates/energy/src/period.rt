@@ -38,6 +38,7 @@ fn from_readings(
     low: Quantities,
     high: Quantities,
     curves: Curves,
+    by_table: bool,
     readings: &[u16],
 ) -> PeriodEnergy
     requires { ⌜ BeforeReadings low high curves ⌝ }
@@ -52,18 +53,19 @@ fn from_readings(
     if (3000 < most.low) | (3000 < most.high) {
         return PeriodEnergy::Readings;
     }
-    let sums = sum_responses(low, high, curves, most, readings);
+    let sums = sum_responses(low, high, curves, most, by_table, readings);
     PeriodEnergy::Bounds {
         low: period_kwh(sums.low, count),
         high: period_kwh(sums.high, count),
     }
 }
 
-// Both directions' bounds of a period.
-pub fn period_energy(
+// Both directions' bounds of a period. Whether tables may serve decides how they are worked out, and nothing else.
+fn energy_of(
     low: Quantities,
     high: Quantities,
     curves: Curves,
+    by_table: bool,
     readings: &[u16],
 ) -> PeriodEnergy
     ensures { λ r. ⌜ answerOf r ≡ periodEnergy low high curves (now (readings .entry)) ⌝ }
@@ -76,7 +78,31 @@ pub fn period_energy(
     if curve {
         return PeriodEnergy::Curve;
     }
-    from_readings(low, high, curves, readings)
+    from_readings(low, high, curves, by_table, readings)
+}
+
+// Both directions' bounds of a period.
+pub fn period_energy(
+    low: Quantities,
+    high: Quantities,
+    curves: Curves,
+    readings: &[u16],
+) -> PeriodEnergy
+    ensures { λ r. ⌜ answerOf r ≡ periodEnergy low high curves (now (readings .entry)) ⌝ }
+{
+    energy_of(low, high, curves, false, readings)
+}
+
+// The same by table for each service whose curve is the stock containment curve (paper 02, No. 4), which takes longer.
+pub fn period_energy_by_table(
+    low: Quantities,
+    high: Quantities,
+    curves: Curves,
+    readings: &[u16],
+) -> PeriodEnergy
+    ensures { λ r. ⌜ answerOf r ≡ periodEnergy low high curves (now (readings .entry)) ⌝ }
+{
+    energy_of(low, high, curves, true, readings)
 }
 
 // The number of an answer, 0 for bounds.

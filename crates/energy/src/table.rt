@@ -1,9 +1,13 @@
 // Period energy in three passes: the largest deviations, a table of each direction's responses by deviation, and the sums.
 ghost use mathlib.Core.Path.{_≡_};
 ghost use Prim.Native.Nat.{ℕ, _+_, _-_, _*_, _^_, min, max};
-ghost use Rattle.energy.specs.Curve.{pointsOf, between, shareAt, responseTo};
+ghost use Rattle.energy.specs.Curve.{pointsOf, containmentCurve, between, shareAt, responseTo};
+ghost use Rattle.energy.specs.Containment.{containmentShare};
 ghost use Rattle.energy.specs.Period.{highDeviation, responses, BeforeReadings};
-ghost use Rattle.energy.specs.Table.{largestDeviations, Added, wholes, FillFits, SegmentFits, ServiceFits, DirectionFits, tableSums, Covered, responseSums, WithinRange};
+ghost use Rattle.energy.specs.Table.{largestDeviations, Added, wholes, FillFits, SegmentFits, ServiceFits, EntriesFit, DirectionFits, tableSums, Covered, responseSums, WithinRange};
+use crate::containment::is_containment;
+use crate::containment::response_by_entry;
+use crate::containment_table::stored_table;
 use crate::curve::Curve;
 use crate::curve::Curves;
 use crate::curve::Point;
@@ -89,7 +93,7 @@ fn fill_segment(factor: u32, p: Point, q: Point, end: usize, table: &mut [u32])
 }
 
 // Adds the responses of a service to each deviation below an end.
-fn fill_service(factor: u32, curve: Curve, end: usize, table: &mut [u32])
+pub(crate) fn fill_service(factor: u32, curve: Curve, end: usize, table: &mut [u32])
     requires { ⌜ ServiceFits factor curve end (now table) ⌝ }
     ensures { λ r. ⌜ Added 0 end (λ (d : ℕ). responseTo factor (shareAt (pointsOf curve) d)) (now (table .entry)) (now (table .exit)) ⌝ }
 {
@@ -114,15 +118,60 @@ fn fill_service(factor: u32, curve: Curve, end: usize, table: &mut [u32])
     );
 }
 
+// Adds what a factor of the stock containment curve responds to each deviation below an end, by entries of its table.
+fn fill_by_entries(factor: u32, entries: &[u32], end: usize, table: &mut [u32])
+    requires { ⌜ EntriesFit factor (now entries) end (now table) ⌝ }
+    ensures { λ r. ⌜ Added 0 end (λ (d : ℕ). responseTo factor (containmentShare d)) (now (table .entry)) (now (table .exit)) ⌝ }
+{
+    let mut d: usize = 0;
+    while d < end {
+        table[d] += response_by_entry(factor, entries[d]) as u32;
+        d += 1;
+    }
+}
+
+// The same to any end: entry 500 serves for larger deviations.
+fn fill_by_table(factor: u32, end: usize, table: &mut [u32])
+    requires { ⌜ ServiceFits factor containmentCurve end (now table) ⌝ }
+    ensures { λ r. ⌜ Added 0 end (λ (d : ℕ). responseTo factor (containmentShare d)) (now (table .entry)) (now (table .exit)) ⌝ }
+{
+    let entries = stored_table();
+    fill_by_entries(
+        factor,
+        &entries,
+        common::smaller(end as u64, 501) as usize,
+        table,
+    );
+    fill(
+        parts_of(response_by_entry(factor, entries[500]) as u32),
+        0,
+        501,
+        end,
+        table,
+    );
+}
+
+// Adds the responses of a service. Where tables may serve the curve decides: the stock containment curve has one.
+fn fill_by_curve(factor: u32, curve: Curve, end: usize, by_table: bool, table: &mut [u32])
+    requires { ⌜ ServiceFits factor curve end (now table) ⌝ }
+    ensures { λ r. ⌜ Added 0 end (λ (d : ℕ). responseTo factor (shareAt (pointsOf curve) d)) (now (table .entry)) (now (table .exit)) ⌝ }
+{
+    if by_table & is_containment(curve) {
+        fill_by_table(factor, end, table);
+    } else {
+        fill_service(factor, curve, end, table);
+    }
+}
+
 // Adds the responses of a direction's services to each deviation up to most.
-fn fill_direction(q: Quantities, curves: Curves, most: u16, table: &mut [u32])
+fn fill_direction(q: Quantities, curves: Curves, most: u16, by_table: bool, table: &mut [u32])
     requires { ⌜ DirectionFits q curves most (now table) ⌝ }
     ensures { λ r. ⌜ Added 0 (most + 1) (responses q curves) (now (table .entry)) (now (table .exit)) ⌝ }
 {
     let end = most as usize + 1;
-    fill_service(q.dc, curves.dc, end, table);
-    fill_service(q.dm, curves.dm, end, table);
-    fill_service(q.dr, curves.dr, end, table);
+    fill_by_curve(q.dc, curves.dc, end, by_table, table);
+    fill_by_curve(q.dm, curves.dm, end, by_table, table);
+    fill_by_curve(q.dr, curves.dr, end, by_table, table);
 }
 
 // ---- the sums
@@ -166,6 +215,7 @@ pub(crate) fn sum_responses(
     high: Quantities,
     curves: Curves,
     most: Deviations,
+    by_table: bool,
     readings: &[u16],
 ) -> Sums
     requires { ⌜ BeforeReadings low high curves × WithinRange most (now readings) ⌝ }
@@ -173,7 +223,7 @@ pub(crate) fn sum_responses(
 {
     let mut lows = [0u32; 3001];
     let mut highs = [0u32; 3001];
-    fill_direction(low, curves, most.low, &mut lows);
-    fill_direction(high, curves, most.high, &mut highs);
+    fill_direction(low, curves, most.low, by_table, &mut lows);
+    fill_direction(high, curves, most.high, by_table, &mut highs);
     sum_table(&lows, &highs, readings)
 }

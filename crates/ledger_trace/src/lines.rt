@@ -26,6 +26,10 @@ pub const CLOSE: u64 = 0x1_63_6c_6f_73_65;
 
 pub const ENERGY: u64 = 0x1_65_6e_65_72_67_79;
 
+pub const TABLE: u64 = 0x1_74_61_62_6c_65;
+
+pub const RESPOND: u64 = 0x1_72_65_73_70_6f_6e_64;
+
 pub const BLOCK: u64 = 0x1_62_6c_6f_63_6b;
 
 pub const PART: u64 = 0x1_70_61_72_74;
@@ -90,16 +94,21 @@ fn is_read(numbers: Numbers, held: usize) -> bool {
     (numbers.count == 2) & are_within(numbers, 0, 1, 65_535) & are_within(numbers, 1, 2, room)
 }
 
-// The lines over the readings: close P D T, energy LDC LDM LDR HDC HDM HDR, block, part N.
+// The lines over the readings: close P D T, energy or table LDC LDM LDR HDC HDM HDR, block, part N.
 fn is_over(word: u64, numbers: Numbers) -> bool {
     let count = numbers.count;
     match word {
         CLOSE => count == 3,
-        ENERGY => (count == 6) & are_within(numbers, 0, 6, MOST),
+        ENERGY | TABLE => (count == 6) & are_within(numbers, 0, 6, MOST),
         BLOCK => count == 0,
         PART => (count == 1) & are_within(numbers, 0, 1, MOST),
         _ => false,
     }
+}
+
+// respond MW D
+fn is_respond(numbers: Numbers) -> bool {
+    (numbers.count == 2) & are_within(numbers, 0, 1, MOST) & are_within(numbers, 1, 2, 65_535)
 }
 
 // check P, propose, clear and the others.
@@ -113,6 +122,7 @@ fn is_line(word: u64, numbers: Numbers, held: usize) -> bool {
         PUT => is_put(numbers),
         CURVE => is_curve(numbers),
         READ => is_read(numbers, held),
+        RESPOND => is_respond(numbers),
         _ => is_over(word, numbers),
     }
 }

@@ -37,6 +37,8 @@ fn next_record(word: u64, numbers: Numbers, curves: Curves, given: Record, held:
     match word {
         lines::PUT => return make::put(numbers, given),
         lines::ENERGY => readings::bound(numbers, curves, held),
+        lines::TABLE => readings::bound_by_table(numbers, curves, held),
+        lines::RESPOND => readings::respond(numbers),
         lines::BLOCK => readings::block(held),
         lines::PART => readings::part(numbers, held),
         lines::READ => (),
@@ -59,10 +61,10 @@ fn next_held(word: u64, numbers: Numbers, held: usize, space: &mut [u16]) -> usi
     if word == lines::READ {
         return readings::read(numbers, held, space);
     }
-    if (word == lines::CLEAR) | (word == lines::CLOSE) | (word == lines::ENERGY) {
-        return 0;
+    match word {
+        lines::CLEAR | lines::CLOSE | lines::ENERGY | lines::TABLE => 0,
+        _ => held,
     }
-    held
 }
 
 fn call(word: u64, numbers: Numbers, state: State, space: &mut [u16]) -> State {

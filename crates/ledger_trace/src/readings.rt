@@ -1,4 +1,4 @@
-// The lines over the readings that are held.
+// The lines over the readings that are held, and the response by table.
 use crate::calls::high_of;
 use crate::calls::low_of;
 use crate::show::write_line;
@@ -8,8 +8,11 @@ use crate::text::value;
 use crate::text::value_u16;
 use crate::text::value_u32;
 use energy::block::BlockCheck;
+use energy::containment::response_by_table;
 use energy::curve::Curves;
 use energy::period::PeriodEnergy;
+use energy::period::period_energy;
+use energy::period::period_energy_by_table;
 use energy::rate::BLOCK_AT_TWENTY;
 use ledger_record::Record;
 
@@ -49,13 +52,13 @@ pub fn close(numbers: Numbers, given: Record, readings: &[u16]) -> Record {
     closed.record
 }
 
-fn write_energy(answer: PeriodEnergy) {
+fn write_energy(word: &[u8], answer: PeriodEnergy) {
     let number = energy::period::number(answer) as u64;
     match answer {
         PeriodEnergy::Bounds { low, high } => {
-            write_three(b"energy", number, low as u64, high as u64);
+            write_three(word, number, low as u64, high as u64);
         }
-        _ => write_three(b"energy", number, 0, 0),
+        _ => write_three(word, number, 0, 0),
     }
 }
 
@@ -63,7 +66,25 @@ fn write_energy(answer: PeriodEnergy) {
 pub fn bound(numbers: Numbers, curves: Curves, readings: &[u16]) {
     let low = low_of(numbers);
     let high = high_of(numbers);
-    write_energy(energy::period::period_energy(low, high, curves, readings));
+    write_energy(b"energy", period_energy(low, high, curves, readings));
+}
+
+// table LDC LDM LDR HDC HDM HDR
+pub fn bound_by_table(numbers: Numbers, curves: Curves, readings: &[u16]) {
+    let low = low_of(numbers);
+    let high = high_of(numbers);
+    write_energy(
+        b"table",
+        period_energy_by_table(low, high, curves, readings),
+    );
+}
+
+// respond MW D
+pub fn respond(numbers: Numbers) {
+    write_line(
+        b"respond",
+        response_by_table(value_u32(numbers, 0), value_u16(numbers, 1)),
+    );
 }
 
 fn write_check(answer: BlockCheck) {
