@@ -21,7 +21,7 @@ pub fn compare(runs: &mut Runs, tally: &mut Tally) {
     hold_readme(&rows);
 }
 
-fn read(path: &str) -> String {
+pub fn read(path: &str) -> String {
     fs::read_to_string(path).unwrap_or_else(|e| panic!("{path}: {e}"))
 }
 

@@ -1,8 +1,9 @@
 //! Compares the proved code with a second program that was written from papers 01 and 02 alone: the functions of include/soe.h
-//! as a host calls them, and the rest through the program ledger_trace.
+//! as a host calls them, the table that the program containment_table prints, and the rest through the program ledger_trace.
 //!
-//! `compare SEED ROUNDS LEDGER_TRACE`, from the repository's root. It stops at the first difference with exit status 1.
+//! `compare SEED ROUNDS LEDGER_TRACE CONTAINMENT_TABLE`, from the repository's root. It stops at the first difference with exit status 1.
 
+mod containment;
 mod day;
 mod host;
 mod host_cases;
@@ -22,21 +23,25 @@ use trace::Runs;
 fn main() {
     let arguments: Vec<String> = std::env::args().skip(1).collect();
     let number = |i: usize| arguments.get(i).and_then(|a| a.parse::<u64>().ok());
-    let (Some(seed), Some(rounds), Some(program)) = (number(0), number(1), arguments.get(2)) else {
-        eprintln!("compare SEED ROUNDS LEDGER_TRACE");
+    let (Some(seed), Some(rounds), [_, _, ledger_trace, containment_table]) =
+        (number(0), number(1), &arguments[..])
+    else {
+        eprintln!("compare SEED ROUNDS LEDGER_TRACE CONTAINMENT_TABLE");
         std::process::exit(2);
     };
     let random = &mut Random::new(seed);
     let tally = &mut Tally::default();
-    let runs = &mut Runs::new(program.clone());
+    let runs = &mut Runs::new(ledger_trace.clone());
 
     papers::compare(runs, tally);
+    containment::compare(containment_table, tally);
     day::compare(runs, tally);
     host_cases::damaged_reports(tally);
     instruction_cases::edges(tally);
     instruction_cases::damaged(tally);
     instruction_cases::lists(random, 2_000, tally);
     trace_cases::energy_edges(random, runs, tally);
+    trace_cases::table_edges(random, runs, tally);
     trace_cases::count_edges(runs, tally);
     trace_cases::block_edges(runs, tally);
     trace_cases::malformed(runs, tally);

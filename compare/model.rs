@@ -1,4 +1,4 @@
-//! Paper 01 and No. 1 of paper 02, written out from the papers alone, plain and slow. Every number is an i128, which none of
+//! Paper 01 and No. 1 and 4 of paper 02, written out from the papers alone, plain and slow. Every number is an i128, which none of
 //! the sums and products here leaves, and every division is an exact fraction, rounded where the papers round.
 //!
 //! A refusal is its number in paper 01's table "When a call declines"; 0 is no refusal.
@@ -39,6 +39,12 @@ impl Fraction {
 
     pub fn rounded_up(self) -> Int {
         -(-self.over).div_euclid(self.under)
+    }
+
+    /// The whole number that the fraction is.
+    pub fn exact(self) -> Int {
+        assert_eq!(self.over % self.under, 0);
+        self.over / self.under
     }
 }
 
@@ -224,6 +230,15 @@ impl Curve {
     }
 }
 
+/// "Stock curves, not official bounds: regulation (15, 0) (200, 1000); containment (15, 0) (200, 50) (500, 1000)."
+pub fn regulation() -> Curve {
+    Curve(vec![(15, 0), (200, 1_000)])
+}
+
+pub fn containment() -> Curve {
+    Curve(vec![(15, 0), (200, 50), (500, 1_000)])
+}
+
 /// "A service's response to a reading is its MW times the share, in kW, rounded up after the one division."
 pub fn response(mw: Int, curve: &Curve, deviation: Int) -> Int {
     curve.share(deviation).times(mw).rounded_up()
@@ -301,6 +316,27 @@ pub fn part(readings: &[u16], period: Int) -> &[u16] {
         }
         _ => &[],
     }
+}
+
+// Table for the containment curve (02, No. 4)
+
+/// What a share is multiplied by in the table.
+const SCALE: Int = 11_100;
+
+/// "The share times 11,100, which is whole at every entry"; "500 serving for larger deviations".
+fn entry(deviation: Int) -> Int {
+    let served = deviation.min(500);
+    containment().share(served).times(SCALE).exact()
+}
+
+/// "A constant table of 501 numbers, one for each deviation from 0 to 500 mHz."
+pub fn table() -> Vec<Int> {
+    (0..=500).map(entry).collect()
+}
+
+/// The response of a service that has the containment curve, by the table.
+pub fn response_by_table(mw: Int, deviation: Int) -> Int {
+    Fraction::new(mw * entry(deviation), SCALE).rounded_up()
 }
 
 // Requirement

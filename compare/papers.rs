@@ -2,7 +2,7 @@
 //! the model and compared.
 
 use crate::host;
-use crate::model::{self, Curve, Direction, Int, Levels, Terms, RATES};
+use crate::model::{self, containment, regulation, Direction, Int, Levels, Terms, RATES};
 use crate::tally::{printed, Tally};
 use crate::trace::{Runs, Script};
 
@@ -57,15 +57,6 @@ const TABLE_8: Table = [
     [8, 0, 2, 4, 0, 2, 0, 0],
 ];
 
-/// Paper 01's stock curves.
-pub fn regulation() -> Curve {
-    Curve(vec![(15, 0), (200, 1_000)])
-}
-
-pub fn containment() -> Curve {
-    Curve(vec![(15, 0), (200, 50), (500, 1_000)])
-}
-
 pub fn compare(runs: &mut Runs, tally: &mut Tally) {
     rates();
     report(tally);
@@ -73,7 +64,9 @@ pub fn compare(runs: &mut Runs, tally: &mut Tally) {
     quantity(tally);
     table(&TABLE_6, Direction([0, 0, 100]), 1, tally);
     table(&TABLE_8, Direction([40, 0, 0]), 2, tally);
+    containment_table();
     runs.add(energy(), tally);
+    runs.add(responses_by_table(), tally);
     runs.add(ledger(), tally);
 }
 
@@ -220,6 +213,43 @@ fn energy() -> Script {
     constant(49_984, "energy 0 271 0");
     constant(49_800, "energy 0 50000 0");
     constant(50_016, "energy 0 0 0");
+    script
+}
+
+/// 02, No. 4: "a constant table of 501 numbers"; "entry 200 is 555,000"; "Energies by table equal those by interpolation for
+/// every reading and quantity", by the responses to each.
+fn containment_table() {
+    let table = model::table();
+    printed("numbers of the table", 501, table.len());
+    printed("entry 200", 555_000, table[200]);
+    for deviation in 0..=3_000 {
+        for mw in 0..=1_000 {
+            printed(
+                "response by table",
+                model::response(mw, &containment(), deviation),
+                model::response_by_table(mw, deviation),
+            );
+        }
+    }
+}
+
+/// The containment curve's points in kW: 100 MW respond with 100 times the share. Past the last "500 serving for larger
+/// deviations". A share of 50 / 185 is 10 kW for 37 MW, and for 36 or 38 rounded up.
+fn responses_by_table() -> Script {
+    let mut script = Script::new(TOPIC);
+    for (mw, deviation, line) in [
+        (100, 15, "respond 0"),
+        (100, 200, "respond 5000"),
+        (100, 500, "respond 100000"),
+        (100, 501, "respond 100000"),
+        (100, 3_000, "respond 100000"),
+        (36, 16, "respond 10"),
+        (37, 16, "respond 10"),
+        (38, 16, "respond 11"),
+    ] {
+        script.respond(mw, deviation);
+        script.printed(line);
+    }
     script
 }
 

@@ -192,13 +192,32 @@ impl Script {
         *place(&mut self.record, k) = value;
     }
 
-    pub fn energy(&mut self, low: &Direction, high: &Direction) -> (i64, Int, Int) {
+    fn period(&mut self, call: &'static str, low: &Direction, high: &Direction) -> (i64, Int, Int) {
         let (l, h) = (low.0, high.0);
-        self.feed("energy", &[l[0], l[1], l[2], h[0], h[1], h[2]]);
+        self.feed(call, &[l[0], l[1], l[2], h[0], h[1], h[2]]);
         let (number, l, h) = model::period_energy(low, high, &self.curves, &self.readings);
         self.readings.clear();
-        self.expect("energy", number, &[l, h]);
+        self.expect(call, number, &[l, h]);
         (number, l, h)
+    }
+
+    pub fn energy(&mut self, low: &Direction, high: &Direction) -> (i64, Int, Int) {
+        self.period("energy", low, high)
+    }
+
+    /// Period energy, then the same by table of the same readings. No. 4: "Energies by table equal those by interpolation."
+    pub fn energy_and_table(&mut self, low: &Direction, high: &Direction) -> (i64, Int, Int) {
+        let readings = self.readings.clone();
+        self.energy(low, high);
+        self.read_all(&readings);
+        self.period("table", low, high)
+    }
+
+    pub fn respond(&mut self, mw: Int, deviation: Int) {
+        self.feed("respond", &[mw, deviation]);
+        let response = model::response(mw, &model::containment(), deviation);
+        assert_eq!(model::response_by_table(mw, deviation), response);
+        self.push(format!("respond {response}"), Some(("respond", 0)));
     }
 
     pub fn block(&mut self) {

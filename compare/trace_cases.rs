@@ -1,11 +1,14 @@
-//! Cases for ledger_trace: period energy, blocks and parts, lists of ledger calls, made-up records.
+//! Cases for ledger_trace: period energy, also by the containment curve's table, blocks and parts, lists of ledger calls,
+//! made-up records.
 
 use crate::host_cases::{any_direction, any_terms, good_bounds, good_direction, rising};
-use crate::model::{Curve, Direction, Entries, Int, Rate, Record, Terms, RATES};
-use crate::papers::{containment, regulation};
+use crate::model::{
+    self, containment, regulation, Curve, Direction, Entries, Int, Rate, Record, Terms, RATES,
+};
 use crate::random::Random;
 use crate::tally::Tally;
 use crate::trace::{numbers, places, Runs, Script, GREATEST_INPUT, MOST_READINGS};
+use std::ops::RangeInclusive;
 
 const MAX: Int = u32::MAX as Int;
 const I64: [Int; 2] = [i64::MIN as Int, i64::MAX as Int];
@@ -287,7 +290,7 @@ fn broken_curves(random: &mut Random, rate: Rate, count: usize) -> Script {
         script.curve(service, &curve);
         script.read(49_900, rate.period() / 2);
         script.read(50_120, rate.period() / 2);
-        script.energy(&Direction([0, 0, 1_000]), &Direction([300, 300, 300]));
+        script.energy_and_table(&Direction([0, 0, 1_000]), &Direction([300, 300, 300]));
         script.curve(service, &regulation());
     }
     script
@@ -303,7 +306,7 @@ fn range_ends(rate: Rate) -> Script {
             script.read(50_000, before);
             script.read(value, 1);
             script.read(50_000, rate.period() - 1 - before);
-            script.energy(&full, &full);
+            script.energy_and_table(&full, &full);
         }
     }
     script
@@ -338,14 +341,14 @@ fn every_reading(rate: Rate, curves: &[Curve; 3]) -> Script {
     let all: Vec<u16> = values.flat_map(|value| vec![value; times]).collect();
     for part in [&all[..rate.period()], &all[all.len() - rate.period()..]] {
         script.read_all(part);
-        script.energy(&Direction([333, 333, 334]), &Direction([1, 2, 3]));
+        script.energy_and_table(&Direction([333, 333, 334]), &Direction([1, 2, 3]));
     }
     for corner in corners(curves) {
         script.read(corner, 1);
         script.read(50_000, rate.period() - 1);
-        script.energy(&Direction([7, 0, 0]), &Direction([0, 0, 7]));
+        script.energy_and_table(&Direction([7, 0, 0]), &Direction([0, 0, 7]));
         script.read(corner, rate.period());
-        script.energy(&Direction([1, 1, 1]), &Direction([1, 1, 998]));
+        script.energy_and_table(&Direction([1, 1, 1]), &Direction([1, 1, 998]));
     }
     script
 }
@@ -356,7 +359,7 @@ fn full_walk(random: &mut Random, rate: Rate, curves: &[Curve; 3]) -> Script {
     script.curves(curves);
     let steps = rate.period();
     script.read_all(&walk(random, 50_000, (49_000, 51_000), rate, steps));
-    script.energy(&good_direction(random), &good_direction(random));
+    script.energy_and_table(&good_direction(random), &good_direction(random));
     script
 }
 
@@ -438,7 +441,10 @@ fn uneven_tens(rate: Rate) -> Script {
 
 pub fn energy(random: &mut Random) -> Script {
     let mut script = Script::new("energy");
-    let curves = good_curves(random);
+    let mut curves = good_curves(random);
+    if random.once_in(2) {
+        give_containment(&mut curves, random.below(8));
+    }
     script.curves(&curves);
     for _ in 0..4 {
         let (mut low, mut high) = (good_direction(random), good_direction(random));
@@ -457,7 +463,10 @@ pub fn energy(random: &mut Random) -> Script {
             good_readings(random, Weather::Any, &curves, rate, STEPS)
         };
         script.read_all(&readings);
-        script.energy(&low, &high);
+        for _ in 0..3 {
+            any_response(random, &mut script);
+        }
+        script.energy_and_table(&low, &high);
         if broken {
             script.curve(service, &curves[service]);
         }
@@ -485,7 +494,7 @@ pub fn energy_refusals(random: &mut Random) -> Script {
             } else {
                 script.read(random.pick(&corners(&curves)), rate.period());
             }
-            script.energy(&directions[0], &directions[1]);
+            script.energy_and_table(&directions[0], &directions[1]);
         }
     }
     script
@@ -509,13 +518,194 @@ pub fn both_rates(random: &mut Random) -> Script {
     let (delivered, taken) = (random.within(0, low + 1), random.within(0, high + 1));
     let outcomes = [&once, &each, &over].map(|readings| {
         script.read_all(readings);
-        let energy = script.energy(&terms.low, &terms.high);
+        let energy = script.energy_and_table(&terms.low, &terms.high);
         script.open(&terms, size, first);
         script.read_all(readings);
         let number = script.close(p, delivered, taken);
         (energy, number, script.record.clone())
     });
     assert!(outcomes.iter().all(|outcome| *outcome == outcomes[0]));
+    script
+}
+
+// Table for the containment curve
+
+const TABLE: &str = "table, edges";
+
+/// Quantities with which a response of the containment curve is whole at many deviations, some of them the widths of its
+/// segments; the least and the greatest of a contract.
+const QUANTITIES: [Int; 8] = [1, 2, 37, 60, 185, 300, 999, 1_000];
+
+/// Gives each service whose bit is set the containment curve.
+fn give_containment(curves: &mut [Curve; 3], services: usize) {
+    for service in 0..3 {
+        if services >> service & 1 == 1 {
+            curves[service] = containment();
+        }
+    }
+}
+
+/// A quantity and a deviation of a contract, or any that the line takes.
+fn any_response(random: &mut Random, script: &mut Script) {
+    let most = random.pick(&[1_000, MAX]);
+    let last = random.pick(&[500, 3_000, u16::MAX.into()]);
+    script.respond(random.between(0, most), random.between(0, last));
+}
+
+/// Responses at each deviation, and a period's energy there; responses that pass 32 bits; curves beside the stock one; each
+/// company of services.
+pub fn table_edges(random: &mut Random, runs: &mut Runs, tally: &mut Tally) {
+    for first in (0..=3_000).step_by(100) {
+        let deviations = first..=(first + 99).min(3_000);
+        runs.add(responses(random, deviations.clone()), tally);
+        for fourth in [None, Some(501), Some(800), Some(3_000)] {
+            runs.add(each_kw(random, fourth, deviations.clone()), tally);
+        }
+    }
+    runs.add(wide_responses(random), tally);
+    for rate in RATES {
+        for curve in near_misses() {
+            runs.add(beside_stock(rate, &curve), tally);
+        }
+        runs.add(companies(random, rate), tally);
+    }
+}
+
+fn responses(random: &mut Random, deviations: RangeInclusive<Int>) -> Script {
+    let mut script = Script::new(TABLE);
+    for deviation in deviations {
+        for mw in QUANTITIES {
+            script.respond(mw, deviation);
+        }
+        for _ in 0..4 {
+            script.respond(random.between(0, 1_000), deviation);
+        }
+    }
+    script
+}
+
+/// Quantities by which MW times the entry passes a power of two; the greatest; others.
+fn wide_responses(random: &mut Random) -> Script {
+    let mut script = Script::new(TABLE);
+    for (deviation, entry) in (0..).zip(model::table()).filter(|(_, entry)| *entry > 0) {
+        for bits in [31, 32, 53] {
+            let passed = (1 << bits) / entry;
+            for mw in [passed, passed + 1] {
+                script.respond(mw.min(MAX), deviation);
+            }
+        }
+    }
+    for mw in [0, 1, 0x7fff_ffff, 0x8000_0000, MAX - 1, MAX] {
+        for deviation in [
+            0, 14, 15, 16, 199, 200, 201, 499, 500, 501, 3_001, 65_534, 65_535,
+        ] {
+            script.respond(mw, deviation);
+        }
+    }
+    for _ in 0..5_000 {
+        any_response(random, &mut script);
+    }
+    script
+}
+
+/// One service's energy at each deviation, below 50,000 and above, with the stock curve or with a fourth point on its flat part.
+/// Readings that are all alike make half of the response R in kWh, rounded up, which hides every second kW. With 1 kW more of a
+/// second service it is half of R + 1, so that one of the two changes where R is a kW more or less.
+fn each_kw(random: &mut Random, fourth: Option<Int>, deviations: RangeInclusive<Int>) -> Script {
+    let mut script = Script::new(TABLE);
+    let mut curve = containment();
+    curve.0.extend(fourth.map(|deviation| (deviation, 1_000)));
+    for deviation in deviations {
+        let service = random.below(3);
+        let mut curves = [(); 3].map(|()| Curve(vec![(0, 0), (1, 1)]));
+        curves[service] = curve.clone();
+        script.curves(&curves);
+        let mw = [(); 2].map(|()| random.within(1, 999));
+        for second in 0..=1 {
+            let [low, high] = mw.map(|mw| {
+                let mut direction = Direction::default();
+                direction.0[service] = mw;
+                direction.0[(service + 1) % 3] = second;
+                direction
+            });
+            for reading in [50_000 - deviation, 50_000 + deviation] {
+                script.read(reading as u16, RATES[0].period());
+                script.energy_and_table(&low, &high);
+            }
+        }
+    }
+    script
+}
+
+/// Good curves that differ from the stock one by a number of a point, or by a point: left out, or one more, on the curve or not.
+fn near_misses() -> Vec<Curve> {
+    let stock = containment().0;
+    let mut curves = Vec::new();
+    let mut add = |change: &dyn Fn(&mut Vec<(Int, Int)>)| {
+        let mut points = stock.clone();
+        change(&mut points);
+        curves.push(Curve(points));
+    };
+    for i in 0..3 {
+        for by in [-1, 1] {
+            add(&|points| points[i].0 += by);
+            add(&|points| points[i].1 += by);
+        }
+        add(&|points| {
+            points.remove(i);
+        });
+    }
+    for (i, point) in [
+        (0, (0, 0)),
+        (0, (14, 0)),
+        (1, (52, 10)),
+        (1, (52, 11)),
+        (2, (350, 525)),
+        (2, (350, 524)),
+        (3, (501, 1_000)),
+        (3, (3_000, 1_000)),
+    ] {
+        add(&|points| points.insert(i, point));
+    }
+    add(&|points| points.extend([(501, 1_000), (3_000, 1_000)]));
+    curves.retain(Curve::good);
+    curves
+}
+
+/// Each service by itself with a curve beside the stock one, then with the stock one, which has its points left behind it.
+fn beside_stock(rate: Rate, curve: &Curve) -> Script {
+    let mut script = Script::new(TABLE);
+    script.curves(&[regulation(), regulation(), regulation()]);
+    let mut readings = corners(&[curve.clone(), containment(), regulation()]);
+    readings.sort();
+    readings.dedup();
+    for service in 0..3 {
+        let mut direction = Direction::default();
+        direction.0[service] = 1_000;
+        for curve in [curve.clone(), containment()] {
+            script.curve(service, &curve);
+            for &reading in &readings {
+                script.read(reading, rate.period());
+                script.energy_and_table(&direction, &direction);
+            }
+        }
+    }
+    script
+}
+
+/// The stock curve at each one, two and three of the services, with any curves at the others.
+fn companies(random: &mut Random, rate: Rate) -> Script {
+    let mut script = Script::new(TABLE);
+    for services in 1..8 {
+        for _ in 0..10 {
+            let mut curves = good_curves(random);
+            give_containment(&mut curves, services);
+            script.curves(&curves);
+            let readings = good_readings(random, Weather::Any, &curves, rate, FEW_STEPS);
+            script.read_all(&readings);
+            script.energy_and_table(&good_direction(random), &good_direction(random));
+        }
+    }
     script
 }
 
@@ -545,7 +735,7 @@ pub fn count_edges(runs: &mut Runs, tally: &mut Tally) {
         parts(&mut script);
         script.clear();
         script.read(49_500, count);
-        script.energy(&terms.low, &terms.high);
+        script.energy_and_table(&terms.low, &terms.high);
         script.read(49_500, count);
         script.close(0, 50_000, 0);
         script.read(49_500, count);
@@ -1161,6 +1351,22 @@ pub fn malformed(runs: &mut Runs, tally: &mut Tally) {
         "part 4294967296\n",
         "energy 1 2 3 4 5\n",
         "energy 1 2 3 4 5 4294967296\n",
+        "table\n",
+        "table 1 2 3 4 5\n",
+        "table 1 2 3 4 5 6 7\n",
+        "table 4294967296 2 3 4 5 6\n",
+        "table 1 2 3 4 5 4294967296\n",
+        "table 1 2 3 4 5 -6\n",
+        "tables 1 2 3 4 5 6\n",
+        "respond\n",
+        "respond 1\n",
+        "respond 1 2 3\n",
+        "respond 4294967296 200\n",
+        "respond -1 200\n",
+        "respond 1 65536\n",
+        "respond 1 -1\n",
+        "respond 1 4294967496\n",
+        "response 1 200\n",
         "monitor 1 2 3 4\n",
     ];
     for text in texts {
