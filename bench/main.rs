@@ -1,5 +1,6 @@
 // Times the proved code, through the static libraries of crates bench and host, against the same work in plain Rust, in one run;
-// and, with the configuration `before`, period energy against that of an earlier revision.
+// period energy by the containment curve's table against that by steps; and, with the configuration `before`, period energy
+// against that of an earlier revision.
 use std::cell::Cell;
 use std::hint::black_box;
 use std::time::Instant;
@@ -15,6 +16,17 @@ extern "C" {
         readings: *const u16,
         count: usize,
     ) -> u64;
+    fn bench_period_by_table(
+        dc: u32,
+        dm: u32,
+        dr: u32,
+        dc_curve: u32,
+        dm_curve: u32,
+        dr_curve: u32,
+        readings: *const u16,
+        count: usize,
+    ) -> u64;
+    fn bench_response_by_table(mw: u32, deviation: u16) -> u64;
     fn bench_closings(
         mw: u32,
         size: u32,
@@ -51,6 +63,11 @@ extern "C" {
 
 fn proved_period(q: [u32; 3], curves: [u32; 3], readings: &[u16]) -> u64 {
     unsafe { bench_period(q[0], q[1], q[2], curves[0], curves[1], curves[2], readings.as_ptr(), readings.len()) }
+}
+
+fn proved_period_by_table(q: [u32; 3], curves: [u32; 3], readings: &[u16]) -> u64 {
+    let [dc, dm, dr] = curves;
+    unsafe { bench_period_by_table(q[0], q[1], q[2], dc, dm, dr, readings.as_ptr(), readings.len()) }
 }
 
 #[cfg(before)]
@@ -115,11 +132,17 @@ struct Curve {
     points: [Point; 5],
 }
 
+const fn point(deviation: u16, share: u16) -> Point {
+    Point { deviation, share }
+}
+
+const BLANK: Point = point(0, 0);
+const CONTAINMENT: Curve = Curve { count: 3, points: [point(15, 0), point(200, 50), point(500, 1000), BLANK, BLANK] };
+
 fn curve_of(n: u32) -> Curve {
-    let p = |deviation, share| Point { deviation, share };
-    let blank = p(0, 0);
+    let (p, blank) = (point, BLANK);
     match n {
-        1 => Curve { count: 3, points: [p(15, 0), p(200, 50), p(500, 1000), blank, blank] },
+        1 => CONTAINMENT,
         3 => Curve { count: 5, points: [p(15, 0), p(200, 50), p(500, 400), p(1500, 700), p(3000, 1000)] },
         _ => Curve { count: 2, points: [p(15, 0), p(200, 1000), blank, blank, blank] },
     }
@@ -269,6 +292,45 @@ fn plain_period(q: [u32; 3], curves: [u32; 3], readings: &[u16]) -> u64 {
 #[inline(never)]
 fn sketched_period(q: [u32; 3], curves: [u32; 3], readings: &[u16]) -> u64 {
     number_of(three_passes(q, q, &curves.map(curve_of), readings))
+}
+
+// ---- a response of the containment curve in plain Rust, for any quantity and so in 64 bits
+
+// By interpolation: the curve comes at run time, so that a segment's width is divided by.
+#[inline(never)]
+extern "C" fn interpolated_response(mw: u32, deviation: u16) -> u64 {
+    let points = black_box(&CONTAINMENT).points();
+    let mut last = points[0];
+    if deviation < last.deviation {
+        return 0;
+    }
+    for &next in &points[1..] {
+        if deviation < next.deviation {
+            let width = (next.deviation - last.deviation) as u64;
+            let rise = (next.share - last.share) as u64;
+            let n = last.share as u64 * width + rise * (deviation - last.deviation) as u64;
+            return (mw as u64 * n).div_ceil(width);
+        }
+        last = next;
+    }
+    mw as u64 * last.share as u64
+}
+
+// The share times 11,100, which rises by 11,100 * 50 / 185 and then by 11,100 * 950 / 300.
+static CONTAINMENT_TABLE: [u32; 501] = {
+    let mut table = [0; 501];
+    let mut d = 16;
+    while d <= 500 {
+        table[d] = table[d - 1] + if d <= 200 { 3000 } else { 35_150 };
+        d += 1;
+    }
+    table
+};
+
+#[inline(never)]
+extern "C" fn tabled_response(mw: u32, deviation: u16) -> u64 {
+    let entry = CONTAINMENT_TABLE[deviation.min(500) as usize];
+    (mw as u64 * entry as u64).div_ceil(11_100)
 }
 
 // ---- the terms check in plain Rust
@@ -519,7 +581,7 @@ fn open(unit: [u32; 3]) -> Record {
     let (mut size, mut first) = (size, first);
     if opening(&terms, &curves, size, first) != 0 {
         terms = Terms { low: [0; 3], high: [0; 3], export_limit: 0, import_limit: 0 };
-        curves = [Curve { count: 0, points: [Point { deviation: 0, share: 0 }; 5] }; 3];
+        curves = [Curve { count: 0, points: [BLANK; 5] }; 3];
         (size, first) = (0, 0);
     }
     Record {
@@ -951,6 +1013,7 @@ fn same_period(q: [u32; 3], curves: [u32; 3], readings: &[u16]) -> u64 {
     let [proved, plain, sketched] = PERIOD_WAYS.map(|f| f(q, curves, readings));
     assert_eq!(proved, plain);
     assert_eq!(sketched, plain);
+    assert_eq!(proved_period_by_table(q, curves, readings), plain);
     plain
 }
 
@@ -969,6 +1032,8 @@ fn period_ways<'a, const N: usize>(
 
 const STOCK: [u32; 3] = [1, 2, 2];
 const SERVICES: [(&str, [u32; 3]); 2] = [("three", [40, 60, 100]), ("one", [0, 0, 100])];
+// And containment alone, which the table serves.
+const SERVED: [(&str, [u32; 3]); 3] = [SERVICES[0], SERVICES[1], ("containment", [100, 0, 0])];
 
 fn periods(kinds: &[Kind]) {
     for (shape, curves) in [("stock", STOCK), ("rising", [3, 3, 3])] {
@@ -990,20 +1055,47 @@ fn periods(kinds: &[Kind]) {
     }
 }
 
-// Period energy now against that of the earlier revision, both proved.
-#[cfg(before)]
-fn against_before(kinds: &[Kind]) {
+// Period energy in two ways, both proved.
+fn two_ways(ways: [Period; 2], services: &[(&str, [u32; 3])], kinds: &[Kind]) {
     for kind in kinds {
-        for (services, q) in SERVICES {
+        for &(services, q) in services {
             for (work, periods) in [("period energy", &kind.two), ("period, 36,000", &kind.twenty)] {
                 for readings in periods {
-                    assert_eq!(proved_period(q, STOCK, readings), earlier_period(q, STOCK, readings));
+                    let [one, other] = ways.map(|f| f(q, STOCK, readings));
+                    assert_eq!(one, other);
                 }
                 let of = format!("{}, {services}, stock", kind.name);
-                let ways = period_ways([proved_period, earlier_period], q, STOCK, periods);
-                compare(work, &of, periods.len(), &ways);
+                compare(work, &of, periods.len(), &period_ways(ways, q, STOCK, periods));
             }
         }
+    }
+}
+
+type Response = unsafe extern "C" fn(u32, u16) -> u64;
+
+const RESPONSE_WAYS: [Response; 3] = [bench_response_by_table, interpolated_response, tabled_response];
+
+fn same_response(mw: u32, deviation: u16) {
+    let [proved, interpolated, tabled] = RESPONSE_WAYS.map(|f| unsafe { f(mw, deviation) });
+    assert_eq!(proved, interpolated);
+    assert_eq!(tabled, interpolated);
+}
+
+fn responses(random: &mut Random) {
+    for mw in [0, 1, 1000, u32::MAX] {
+        (0..=u16::MAX).for_each(|deviation| same_response(mw, deviation));
+    }
+    for (name, most) in [("10,000 within 500 mHz", 500), ("10,000 within 3,000 mHz", 3000)] {
+        let all: Vec<_> = (0..10_000).map(|_| (random.below(1001), random.below(most + 1) as u16)).collect();
+        all.iter().for_each(|&(mw, deviation)| same_response(mw, deviation));
+        let ways = RESPONSE_WAYS.map(|f| {
+            let all = &all;
+            move |i: usize| {
+                let (mw, deviation) = black_box(all[i]);
+                black_box(unsafe { f(mw, deviation) });
+            }
+        });
+        compare("response", name, all.len(), &ways);
     }
 }
 
@@ -1223,10 +1315,17 @@ fn main() {
     reports(&mut random);
     term_checks(&mut random);
     instructions(&mut random);
+    println!("{:14} {:38} {:>9} {}", "work", "of", "table, us", title("steps, us"));
+    for kinds in [&within[..], &any] {
+        two_ways([proved_period_by_table, proved_period], &SERVED, kinds);
+    }
+    println!("{:14} {:38} {:>9} {} {}", "work", "of", "Rattle, us", title("plain, us"), title("table, us"));
+    responses(&mut random);
     #[cfg(before)]
     {
         println!("{:14} {:38} {:>9} {}", "work", "of", "now, us", title("before, us"));
-        against_before(&within);
-        against_before(&any);
+        for kinds in [&within[..], &any] {
+            two_ways([proved_period, earlier_period], &SERVICES, kinds);
+        }
     }
 }
