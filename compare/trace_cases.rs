@@ -558,8 +558,10 @@ pub fn table_edges(random: &mut Random, runs: &mut Runs, tally: &mut Tally) {
     for first in (0..=3_000).step_by(100) {
         let deviations = first..=(first + 99).min(3_000);
         runs.add(responses(random, deviations.clone()), tally);
-        for fourth in [None, Some(501), Some(800), Some(3_000)] {
-            runs.add(each_kw(random, fourth, deviations.clone()), tally);
+        for rate in RATES {
+            for fourth in [None, Some(501), Some(800), Some(3_000)] {
+                runs.add(each_kw(random, rate, fourth, deviations.clone()), tally);
+            }
         }
     }
     runs.add(wide_responses(random), tally);
@@ -611,7 +613,12 @@ fn wide_responses(random: &mut Random) -> Script {
 /// One service's energy at each deviation, below 50,000 and above, with the stock curve or with a fourth point on its flat part.
 /// Readings that are all alike make half of the response R in kWh, rounded up, which hides every second kW. With 1 kW more of a
 /// second service it is half of R + 1, so that one of the two changes where R is a kW more or less.
-fn each_kw(random: &mut Random, fourth: Option<Int>, deviations: RangeInclusive<Int>) -> Script {
+fn each_kw(
+    random: &mut Random,
+    rate: Rate,
+    fourth: Option<Int>,
+    deviations: RangeInclusive<Int>,
+) -> Script {
     let mut script = Script::new(TABLE);
     let mut curve = containment();
     curve.0.extend(fourth.map(|deviation| (deviation, 1_000)));
@@ -629,7 +636,7 @@ fn each_kw(random: &mut Random, fourth: Option<Int>, deviations: RangeInclusive<
                 direction
             });
             for reading in [50_000 - deviation, 50_000 + deviation] {
-                script.read(reading as u16, RATES[0].period());
+                script.read(reading as u16, rate.period());
                 script.energy_and_table(&low, &high);
             }
         }
