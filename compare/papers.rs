@@ -1,5 +1,5 @@
-//! The examples of paper 01, the counts of both papers and the tables of documents 000 and 003 as they are printed, held to
-//! the model and compared.
+//! The examples of paper 01, the counts of both papers, what 02 prints of its table and the tables of documents 000 and 003 as
+//! they are printed, held to the model and compared.
 
 use crate::host;
 use crate::model::{self, containment, regulation, Direction, Int, Levels, Terms, RATES};

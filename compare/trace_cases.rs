@@ -644,7 +644,8 @@ fn each_kw(
     script
 }
 
-/// Good curves that differ from the stock one by a number of a point, or by a point: left out, or one more, on the curve or not.
+/// Good curves that differ from the stock one by a number of a point, by a point left out, or by points more, on its lines or
+/// beside them.
 fn near_misses() -> Vec<Curve> {
     let stock = containment().0;
     let mut curves = Vec::new();
@@ -679,7 +680,8 @@ fn near_misses() -> Vec<Curve> {
     curves
 }
 
-/// Each service by itself with a curve beside the stock one, then with the stock one, which has its points left behind it.
+/// Each service by itself with a curve beside the stock one, and with the stock one after it: where the curve had more points,
+/// they are past the count now.
 fn beside_stock(rate: Rate, curve: &Curve) -> Script {
     let mut script = Script::new(TABLE);
     script.curves(&[regulation(), regulation(), regulation()]);
