@@ -1,7 +1,8 @@
 //! Compares the proved code with a second program that was written from papers 01 and 02 alone: the functions of include/soe.h
 //! as a host calls them, the table that the program containment_table prints, and the rest through the program ledger_trace.
 //!
-//! `compare SEED ROUNDS LEDGER_TRACE CONTAINMENT_TABLE`, from the repository's root. It stops at the first difference with exit status 1.
+//! `compare SEED ROUNDS LEDGER_TRACE CONTAINMENT_TABLE`, from the repository's root. It stops at the first difference with exit
+//! status 1.
 
 mod containment;
 mod day;
