@@ -1,8 +1,12 @@
-// What the timing program in bench/ links: period energy over numbers, with curves chosen at run time, and closings.
+// What the timing program in bench/ links: period energy over numbers, by steps and by table, with curves chosen at run time; the
+// response by table; and closings.
 ghost use mathlib.Core.Path.{_≡_};
 ghost use Prim.Native.Nat.{_+_, _*_};
 ghost use Rattle.ledger.specs.Calls.{closingWith};
-ghost use Rattle.bench.specs.Bench.{quantities, curveOf, curvesOf, periodNumber, openedRecord, closings, recordNumber};
+ghost use Rattle.energy.specs.Curve.{containmentCurve, response};
+ghost use Rattle.energy.specs.Period.{answerOf};
+ghost use Rattle.bench.specs.Bench.{quantities, curveOf, curvesOf, oneNumber, periodNumber, openedRecord, closings, recordNumber};
+use energy::containment::response_by_table;
 use energy::curve::Curve;
 use energy::curve::Curves;
 use energy::curve::Point;
@@ -10,6 +14,7 @@ use energy::curve::containment_curve;
 use energy::curve::regulation_curve;
 use energy::period::PeriodEnergy;
 use energy::period::period_energy;
+use energy::period::period_energy_by_table;
 use ledger_record::Record;
 use terms::Quantities;
 use terms::Terms;
@@ -53,7 +58,28 @@ fn curve_of(n: u32) -> Curve
     regulation_curve()
 }
 
+fn curves_of(dc: u32, dm: u32, dr: u32) -> Curves
+    ensures { λ r. ⌜ r ≡ curvesOf dc dm dr ⌝ }
+{
+    Curves {
+        dc: curve_of(dc),
+        dm: curve_of(dm),
+        dr: curve_of(dr),
+    }
+}
+
 // Both bounds in one number, the low one times 2^32, or a refusal's number.
+fn energy_number(answer: PeriodEnergy) -> u64
+    ensures { λ r. ⌜ r ≡ oneNumber (answerOf answer) ⌝ }
+{
+    match answer {
+        PeriodEnergy::Bounds { low, high } => low as u64 * 4294967296 + high as u64,
+        PeriodEnergy::Quantity => 1,
+        PeriodEnergy::Curve => 5,
+        PeriodEnergy::Readings => 6,
+    }
+}
+
 #[no_mangle]
 pub extern "C" fn bench_period(
     dc: u32,
@@ -67,17 +93,32 @@ pub extern "C" fn bench_period(
     ensures { λ r. ⌜ r ≡ periodNumber (quantities dc dm dr) (curvesOf «dc_curve» «dm_curve» «dr_curve») (now (readings .entry)) ⌝ }
 {
     let q = Quantities { dc, dm, dr };
-    let curves = Curves {
-        dc: curve_of(dc_curve),
-        dm: curve_of(dm_curve),
-        dr: curve_of(dr_curve),
-    };
-    match period_energy(q, q, curves, readings) {
-        PeriodEnergy::Bounds { low, high } => low as u64 * 4294967296 + high as u64,
-        PeriodEnergy::Quantity => 1,
-        PeriodEnergy::Curve => 5,
-        PeriodEnergy::Readings => 6,
-    }
+    let curves = curves_of(dc_curve, dm_curve, dr_curve);
+    energy_number(period_energy(q, q, curves, readings))
+}
+
+#[no_mangle]
+pub extern "C" fn bench_period_by_table(
+    dc: u32,
+    dm: u32,
+    dr: u32,
+    dc_curve: u32,
+    dm_curve: u32,
+    dr_curve: u32,
+    readings: &[u16],
+) -> u64
+    ensures { λ r. ⌜ r ≡ periodNumber (quantities dc dm dr) (curvesOf «dc_curve» «dm_curve» «dr_curve») (now (readings .entry)) ⌝ }
+{
+    let q = Quantities { dc, dm, dr };
+    let curves = curves_of(dc_curve, dm_curve, dr_curve);
+    energy_number(period_energy_by_table(q, q, curves, readings))
+}
+
+#[no_mangle]
+pub extern "C" fn bench_response_by_table(mw: u32, deviation: u16) -> u64
+    ensures { λ r. ⌜ r ≡ response mw containmentCurve deviation ⌝ }
+{
+    response_by_table(mw, deviation)
 }
 
 // A record just opened, for regulation alone; a blank one where opening refuses.

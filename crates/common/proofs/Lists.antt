@@ -3,13 +3,13 @@ use mathlib.Core.Path.{_≡_, refl, sym, _∙_}
 use mathlib.Core.Bool.{Bool, true, false, _&&_, _||_, and-assoc, and-false}
 use mathlib.Core.List.{List, [], _∷_, _++_, map, map-append}
 use Prim.Native.Nat.{ℕ, zero, suc, _+_, _*_, _≤_, _<_}
-use native.Mathlib.Nat.{mul-suc}
+use native.Mathlib.Nat.{add-zero, mul-suc, zero-add}
 use native.Mathlib.Numerals.{add-one}
 use native.Mathlib.Omega.{arith}
 use lib.ListN.{length, getD, take, drop, replicate, drop-of-length-le}
 use lib.Seq.{take-suc, drop-cons}
-use Rattle.common.specs.Lists.{sum, every, someEntry}
-use Rattle.common.proofs.Tests.{neither}
+use Rattle.common.specs.Lists.{sum, every, everyFrom, someEntry}
+use Rattle.common.proofs.Tests.{both-true, neither}
 
 -- a turn of a loop over a list: the entries from the i-th on are the i-th and those after it
 pub drop-next : {A : Type 0} (xs : List A) (i : ℕ) (d : A) → i < length xs → drop i xs ≡ getD xs i d ∷ drop (i + 1) xs
@@ -97,6 +97,33 @@ module _ {A : Type 0} (holds : A → Bool) where
     every-not [] i l bad = absurd (omega arith)
     every-not (x ∷ xs) zero l bad = rw bad
     every-not (x ∷ xs) (suc i) l bad = rw (every-not xs i (omega arith) bad) (and-false (holds x))
+
+-- ---- a test of every entry and its place
+module _ {A : Type 0} (holds : ℕ → A → Bool) (d : A) where
+  -- what it says of each
+  entry-from : (at : ℕ) (xs : List A) → everyFrom at holds xs ≡ true → (i : ℕ) → i < length xs → holds (at + i) (getD xs i d) ≡ true
+  unfolding everyFrom
+  entry-from at [] t i h = absurd (omega arith)
+  entry-from at (x ∷ xs) t zero h = rw (add-zero at) (both-true (holds at x) (everyFrom (suc at) holds xs) t .0)
+  entry-from at (x ∷ xs) t (suc i) h =
+      let place : at + suc i ≡ suc at + i = omega arith in
+      rw place (entry-from (suc at) xs (both-true (holds at x) (everyFrom (suc at) holds xs) t .1) i (omega arith))
+
+  pub entry-holds : (xs : List A) → everyFrom 0 holds xs ≡ true → (i : ℕ) → i < length xs → holds i (getD xs i d) ≡ true
+  entry-holds xs t i h = rw (zero-add i) at (entry-from 0 xs t i h)
+
+  -- and where it holds of each
+  from-entries : (at : ℕ) (xs : List A) → ((i : ℕ) → i < length xs → holds (at + i) (getD xs i d) ≡ true) → everyFrom at holds xs ≡ true
+  unfolding everyFrom
+  from-entries at [] h = refl
+  from-entries at (x ∷ xs) h =
+      let here : holds at x ≡ true = rw (add-zero at) at (h 0 (omega arith)) in
+      let after : (i : ℕ) → i < length xs → holds (suc at + i) (getD xs i d) ≡ true =
+      λ i l. let place : at + suc i ≡ suc at + i = omega arith in rw place at (h (suc i) (omega arith)) in
+      rw here (from-entries (suc at) xs after)
+
+  pub every-entry : (xs : List A) → ((i : ℕ) → i < length xs → holds i (getD xs i d) ≡ true) → everyFrom 0 holds xs ≡ true
+  every-entry xs h = from-entries 0 xs (λ i l. rw (zero-add i) (h i l))
 
 -- ---- a loop that looks for an entry: what is left of the list says the same as the whole
 module _ {A : Type 0} (holds : A → Bool) (xs : List A) (i : ℕ) (d : A) where

@@ -1,5 +1,7 @@
 pub mod Backward
 pub mod Blocks
+pub mod ByTable
+pub mod Entries
 pub mod Filling
 pub mod FixedPoint
 pub mod Largest

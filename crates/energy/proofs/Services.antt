@@ -1,4 +1,4 @@
--- The loop of `fill_service`: below the point `last`, a service's responses were added. Assumes nothing.
+-- The loop of `fill_by_steps`: below the point `last`, a service's responses were added. Assumes nothing.
 use mathlib.Core.Path.{_≡_, refl, sym, _∙_}
 use mathlib.Core.Bool.{true}
 use mathlib.Core.List.{List}

@@ -51,6 +51,9 @@ share-at (p ∷ ps) d e =
     by-test Share (ltb d (p .deviation)) (whole 0) (shareFrom p ps d) (λ t. record { positive = omega arith; at-most = omega arith })
     (λ t. share-from p ps d (both-true (eqb (p .share) 0) (chain inRange rises p ps) e .1) (ltb-false d (p .deviation) t))
 
+pub share-positive : (ps : List Point) (d : ℕ) → pointsRule ps ≡ true → 0 < shareAt ps d .denominator
+share-positive ps d e = share-at ps d e .positive
+
 -- ---- the share at deviation 0
 
 between-zero : (p q : Point) → p .share ≡ 0 → between p q 0 .numerator ≡ 0

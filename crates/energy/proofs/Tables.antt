@@ -10,7 +10,7 @@ use lib.ListN.{length, getD, set, replicate}
 use lib.Seq.{getD-set-same, getD-set-other}
 use Rattle.energy.specs.Table.{Added, Room}
 
-either : {P : Type 0} (a b : ℕ) → (a < b → P) → (b ≤ a → P) → P
+pub either : {P : Type 0} (a b : ℕ) → (a < b → P) → (b ≤ a → P) → P
 either {P} a b f g = by (decLt a b)
   where
     by : Dec (a < b) → P

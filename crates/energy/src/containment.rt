@@ -9,7 +9,7 @@ use crate::containment_table::stored_table;
 use crate::curve::Curve;
 use crate::curve::Point;
 use crate::curve::containment_curve;
-use crate::table::fill_service;
+use crate::table::fill_by_steps;
 
 // A quantity times an entry, divided by 11,100, rounded up.
 pub(crate) fn response_by_entry(mw: u32, entry: u32) -> u64
@@ -49,6 +49,6 @@ pub fn interpolated_table() -> [u32; 501]
     ensures { λ r. ⌜ tableRule r ≡ true ⌝ }
 {
     let mut table = [0u32; 501];
-    fill_service(11100, containment_curve(), 501, &mut table);
+    fill_by_steps(11100, containment_curve(), 501, &mut table);
     table
 }

@@ -38,8 +38,8 @@ fn from_readings(
     low: Quantities,
     high: Quantities,
     curves: Curves,
-    by_table: bool,
     readings: &[u16],
+    by_table: bool,
 ) -> PeriodEnergy
     requires { ⌜ BeforeReadings low high curves ⌝ }
     ensures { λ r. ⌜ answerOf r ≡ fromReadings low high curves (now (readings .entry)) ⌝ }
@@ -53,7 +53,7 @@ fn from_readings(
     if (3000 < most.low) | (3000 < most.high) {
         return PeriodEnergy::Readings;
     }
-    let sums = sum_responses(low, high, curves, most, by_table, readings);
+    let sums = sum_responses(low, high, curves, most, readings, by_table);
     PeriodEnergy::Bounds {
         low: period_kwh(sums.low, count),
         high: period_kwh(sums.high, count),
@@ -65,8 +65,8 @@ fn energy_of(
     low: Quantities,
     high: Quantities,
     curves: Curves,
-    by_table: bool,
     readings: &[u16],
+    by_table: bool,
 ) -> PeriodEnergy
     ensures { λ r. ⌜ answerOf r ≡ periodEnergy low high curves (now (readings .entry)) ⌝ }
 {
@@ -78,7 +78,7 @@ fn energy_of(
     if curve {
         return PeriodEnergy::Curve;
     }
-    from_readings(low, high, curves, by_table, readings)
+    from_readings(low, high, curves, readings, by_table)
 }
 
 // Both directions' bounds of a period.
@@ -90,7 +90,7 @@ pub fn period_energy(
 ) -> PeriodEnergy
     ensures { λ r. ⌜ answerOf r ≡ periodEnergy low high curves (now (readings .entry)) ⌝ }
 {
-    energy_of(low, high, curves, false, readings)
+    energy_of(low, high, curves, readings, false)
 }
 
 // The same by table for each service whose curve is the stock containment curve (paper 02, No. 4), which takes longer.
@@ -102,7 +102,7 @@ pub fn period_energy_by_table(
 ) -> PeriodEnergy
     ensures { λ r. ⌜ answerOf r ≡ periodEnergy low high curves (now (readings .entry)) ⌝ }
 {
-    energy_of(low, high, curves, true, readings)
+    energy_of(low, high, curves, readings, true)
 }
 
 // The number of an answer, 0 for bounds.

@@ -92,8 +92,8 @@ fn fill_segment(factor: u32, p: Point, q: Point, end: usize, table: &mut [u32])
     );
 }
 
-// Adds the responses of a service to each deviation below an end.
-pub(crate) fn fill_service(factor: u32, curve: Curve, end: usize, table: &mut [u32])
+// Adds the responses of a service to each deviation below an end, by steps from point to point.
+pub(crate) fn fill_by_steps(factor: u32, curve: Curve, end: usize, table: &mut [u32])
     requires { ⌜ ServiceFits factor curve end (now table) ⌝ }
     ensures { λ r. ⌜ Added 0 end (λ (d : ℕ). responseTo factor (shareAt (pointsOf curve) d)) (now (table .entry)) (now (table .exit)) ⌝ }
 {
@@ -151,27 +151,27 @@ fn fill_by_table(factor: u32, end: usize, table: &mut [u32])
     );
 }
 
-// Adds the responses of a service. Where tables may serve the curve decides: the stock containment curve has one.
-fn fill_by_curve(factor: u32, curve: Curve, end: usize, by_table: bool, table: &mut [u32])
+// Adds the responses of a service. Where a table may serve, the curve decides whether it does.
+fn fill_service(factor: u32, curve: Curve, end: usize, table: &mut [u32], by_table: bool)
     requires { ⌜ ServiceFits factor curve end (now table) ⌝ }
     ensures { λ r. ⌜ Added 0 end (λ (d : ℕ). responseTo factor (shareAt (pointsOf curve) d)) (now (table .entry)) (now (table .exit)) ⌝ }
 {
     if by_table & is_containment(curve) {
         fill_by_table(factor, end, table);
     } else {
-        fill_service(factor, curve, end, table);
+        fill_by_steps(factor, curve, end, table);
     }
 }
 
 // Adds the responses of a direction's services to each deviation up to most.
-fn fill_direction(q: Quantities, curves: Curves, most: u16, by_table: bool, table: &mut [u32])
+fn fill_direction(q: Quantities, curves: Curves, most: u16, table: &mut [u32], by_table: bool)
     requires { ⌜ DirectionFits q curves most (now table) ⌝ }
     ensures { λ r. ⌜ Added 0 (most + 1) (responses q curves) (now (table .entry)) (now (table .exit)) ⌝ }
 {
     let end = most as usize + 1;
-    fill_by_curve(q.dc, curves.dc, end, by_table, table);
-    fill_by_curve(q.dm, curves.dm, end, by_table, table);
-    fill_by_curve(q.dr, curves.dr, end, by_table, table);
+    fill_service(q.dc, curves.dc, end, table, by_table);
+    fill_service(q.dm, curves.dm, end, table, by_table);
+    fill_service(q.dr, curves.dr, end, table, by_table);
 }
 
 // ---- the sums
@@ -215,15 +215,15 @@ pub(crate) fn sum_responses(
     high: Quantities,
     curves: Curves,
     most: Deviations,
-    by_table: bool,
     readings: &[u16],
+    by_table: bool,
 ) -> Sums
     requires { ⌜ BeforeReadings low high curves × WithinRange most (now readings) ⌝ }
     ensures { λ r. ⌜ r ≡ responseSums low high curves (now (readings .entry)) ⌝ }
 {
     let mut lows = [0u32; 3001];
     let mut highs = [0u32; 3001];
-    fill_direction(low, curves, most.low, by_table, &mut lows);
-    fill_direction(high, curves, most.high, by_table, &mut highs);
+    fill_direction(low, curves, most.low, &mut lows, by_table);
+    fill_direction(high, curves, most.high, &mut highs, by_table);
     sum_table(&lows, &highs, readings)
 }
