@@ -136,19 +136,10 @@ fn fill_by_table(factor: u32, end: usize, table: &mut [u32])
     ensures { λ r. ⌜ Added 0 end (λ (d : ℕ). responseTo factor (containmentShare d)) (now (table .entry)) (now (table .exit)) ⌝ }
 {
     let entries = stored_table();
-    fill_by_entries(
-        factor,
-        &entries,
-        common::smaller(end as u64, 501) as usize,
-        table,
-    );
-    fill(
-        parts_of(response_by_entry(factor, entries[500]) as u32),
-        0,
-        501,
-        end,
-        table,
-    );
+    let near = common::smaller(end as u64, 501) as usize;
+    fill_by_entries(factor, &entries, near, table);
+    let last = response_by_entry(factor, entries[500]) as u32;
+    fill(parts_of(last), 0, 501, end, table);
 }
 
 // Adds the responses of a service. Where a table may serve, the curve decides whether it does.

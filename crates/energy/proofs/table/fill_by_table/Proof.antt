@@ -21,16 +21,16 @@ entries-added r = r .before .before .before
 near : (e : tie.After-fill-by-entries) →
     let a = start (table-of e) .args in
     Added 0 (min (a .end) 501) (added (a .factor)) (a .table .now) (e .fill-by-entries .last .1 .1 .1 .0)
-near e = rw (e .before .before .smaller .ensures) at (e .fill-by-entries .ensures)
+near e = rw (e .before .before .before .smaller .ensures) at (e .fill-by-entries .ensures)
 
 stored-table-requires : tie.Need-stored-table-requires
 stored-table-requires c κs = search needs
 
-slice-aggregate-fill-by-entries : tie.Need-slice-aggregate-fill-by-entries
-slice-aggregate-fill-by-entries c = search needs
-
 smaller-requires : tie.Need-smaller-requires
 smaller-requires c κs = search needs
+
+slice-aggregate-fill-by-entries : tie.Need-slice-aggregate-fill-by-entries
+slice-aggregate-fill-by-entries c = search needs
 
 fill-by-entries-requires : tie.Need-fill-by-entries-requires
 fill-by-entries-requires c κs = search needs
@@ -41,8 +41,8 @@ array-read-response-by-entry c = search needs
 response-by-entry-requires : tie.Need-response-by-entry-requires
 response-by-entry-requires c κs = search needs
 
-cast-parts-of : tie.Need-cast-parts-of
-cast-parts-of c =
+cast-last : tie.Need-cast-last
+cast-last c =
     let t = table-of (entries-added c) in
     let s = start t in
     omega (arith, c .response-by-entry .ensures, found-is (s .args .factor) (t .stored-table .result) (t .stored-table .ensures) 500 (omega arith), added-le (s .args .factor) 500, s .pre .factor-most)
@@ -76,12 +76,12 @@ fill-by-table-spec =
     tie.close
     (tie.spec
     stored-table-requires
-    slice-aggregate-fill-by-entries
     smaller-requires
+    slice-aggregate-fill-by-entries
     fill-by-entries-requires
     array-read-response-by-entry
     response-by-entry-requires
-    cast-parts-of
+    cast-last
     parts-of-requires
     fill-requires
     same-length
