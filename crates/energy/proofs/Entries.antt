@@ -1,6 +1,6 @@
 -- The loop of `fill_by_entries`: below the entry d, the responses of the stock containment curve were added; and what `fill_by_table`
 -- adds past the last entry. Assumes nothing.
-use mathlib.Core.Path.{_≡_, refl, sym, _∙_}
+use mathlib.Core.Path.{_≡_, refl, _∙_}
 use mathlib.Core.Bool.{true}
 use mathlib.Core.List.{List}
 use Prim.Native.Nat.{ℕ, _+_, _-_, _*_, _^_, _≤_, _<_, min}
@@ -9,11 +9,12 @@ use lib.ListN.{length, getD, set, length-set}
 use Rattle.common.specs.Fraction.{roundedUp}
 use Rattle.energy.specs.Curve.{containmentCurve, responseTo, response}
 use Rattle.energy.specs.Containment.{containmentShare, tableRule}
-use Rattle.energy.specs.Table.{Added, Room, wholes, FillFits, ServiceFits, EntriesFit}
-use Rattle.energy.proofs.ByTable.{rule, same-response}
+use Rattle.energy.specs.Table.{Added, wholes, FillFits, ServiceFits, EntriesFit}
+use Rattle.energy.proofs.ByTable.{same-response}
 use Rattle.energy.proofs.FixedPoint.{start-value}
 use Rattle.energy.proofs.Segments.{first}
 use Rattle.energy.proofs.Shares.{response-le}
+use Rattle.energy.proofs.StockCurve.{rule}
 use Rattle.energy.proofs.Tables.{none-added, one-more, all-added, same-added, then-added}
 
 module _ (factor : ℕ) where

@@ -15,5 +15,6 @@ pub mod Rounding
 pub mod Segments
 pub mod Services
 pub mod Shares
+pub mod StockCurve
 pub mod Sums
 pub mod Tables

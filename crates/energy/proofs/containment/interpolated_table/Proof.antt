@@ -1,7 +1,8 @@
 -- `energy::containment::interpolated_table` meets its contract: what was added to a table of zeros keeps the rule. Assumes nothing.
 use native.Mathlib.Omega.{arith}
 use borrow.Author.Needs.{needs}
-use Rattle.energy.proofs.ByTable.{rule, interpolated}
+use Rattle.energy.proofs.ByTable.{interpolated}
+use Rattle.energy.proofs.StockCurve.{rule}
 use Rattle.energy.proofs.Tables.{zeros-at}
 use Rattle.energy.proofs.containment.interpolated_table.Statement.{statement}
 use Rattle.energy.proofs.containment.interpolated_table.Tie as tie

@@ -2,7 +2,7 @@
 use mathlib.Core.Path.{_≡_, sym, _∙_}
 use borrow.Author.Needs.{needs}
 use lib.ListN.{length, length-map}
-use Rattle.energy.proofs.ByTable.{by-points}
+use Rattle.energy.proofs.StockCurve.{by-points}
 use Rattle.energy.proofs.containment.is_containment.Statement.{statement}
 use Rattle.energy.proofs.containment.is_containment.Tie as tie
 

@@ -3,7 +3,7 @@ use mathlib.Core.Path.{_≡_, sym, _∙_}
 use borrow.Author.Needs.{needs}
 use Rattle.common.proofs.Tests.{both-true}
 use Rattle.energy.specs.Curve.{pointsOf, containmentCurve}
-use Rattle.energy.proofs.ByTable.{rule, stock-points}
+use Rattle.energy.proofs.StockCurve.{rule, stock-points}
 use Rattle.energy.proofs.table.fill_service.Statement.{statement}
 use Rattle.energy.proofs.table.fill_service.Tie as tie
 
