@@ -92,7 +92,7 @@ module _ (c : Curve) where
           same = rw (le-leb 2 (c .count) few, le-leb (c .count) 5 many, first few long, eq-eqb (at 0 .share) 0 h);
         }
 
-  -- ---- the loop of `fill_service`: from the point `last` on, the points from the i-th on decide the share
+  -- ---- the loop of `fill_by_steps`: from the point `last` on, the points from the i-th on decide the share
 
   pub record Reached (last : Point) (i : ℕ) : Type 0 where
     pub rule : chain inRange rises last (rest i) ≡ true

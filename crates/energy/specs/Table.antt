@@ -63,7 +63,7 @@ pub record SegmentFits (factor : ℕ) (p q : Point) (end : ℕ) (table : List �
   pub there : end ≤ length table
   pub room : (d : ℕ) → p .deviation ≤ d → getD table d 0 + 1000 * factor < 2 ^ 32
 
--- `fill_service`: a curve that keeps its rule, and room for 1,000 per mille of such a factor
+-- `fill_service` and how it fills: a curve that keeps its rule, and room for 1,000 per mille of such a factor
 pub record ServiceFits (factor : ℕ) (c : Curve) (end : ℕ) (table : List ℕ) : Type 0 where
   pub factor-most : factor ≤ 1000000
   pub rule : curveRule c ≡ true
