@@ -552,8 +552,8 @@ fn any_response(random: &mut Random, script: &mut Script) {
     script.respond(random.between(0, most), random.between(0, last));
 }
 
-/// Responses at each deviation, and a period's energy there; responses that pass 32 bits; curves beside the stock one; each
-/// company of services.
+/// Responses at each deviation, and a period's energy there; responses that pass 32 bits; curves beside the stock one; the stock
+/// one at some of the services.
 pub fn table_edges(random: &mut Random, runs: &mut Runs, tally: &mut Tally) {
     for first in (0..=3_000).step_by(100) {
         let deviations = first..=(first + 99).min(3_000);
@@ -569,7 +569,7 @@ pub fn table_edges(random: &mut Random, runs: &mut Runs, tally: &mut Tally) {
         for curve in near_misses() {
             runs.add(beside_stock(rate, &curve), tally);
         }
-        runs.add(companies(random, rate), tally);
+        runs.add(stock_at_some(random, rate), tally);
     }
 }
 
@@ -703,7 +703,7 @@ fn beside_stock(rate: Rate, curve: &Curve) -> Script {
 }
 
 /// The stock curve at each one, two and three of the services, with any curves at the others.
-fn companies(random: &mut Random, rate: Rate) -> Script {
+fn stock_at_some(random: &mut Random, rate: Rate) -> Script {
     let mut script = Script::new(TABLE);
     for services in 1..8 {
         for _ in 0..10 {
