@@ -27,6 +27,7 @@ extern "C" {
         count: usize,
     ) -> u64;
     fn bench_response_by_table(mw: u32, deviation: u16) -> u64;
+    fn bench_response_from(table: *const u32, mw: u32, deviation: u16) -> u64;
     fn bench_closings(
         mw: u32,
         size: u32,
@@ -1073,12 +1074,20 @@ fn two_ways(ways: [Period; 2], services: &[(&str, [u32; 3])], kinds: &[Kind]) {
 
 type Response = unsafe extern "C" fn(u32, u16) -> u64;
 
-const RESPONSE_WAYS: [Response; 3] = [bench_response_by_table, interpolated_response, tabled_response];
+// The proved ones, by the stored table and by one that is lent, and the plain ones.
+const PROVED_RESPONSES: [(&str, Response); 2] = [("response", bench_response_by_table), ("table lent", lent_response)];
+const PLAIN_RESPONSES: [Response; 2] = [interpolated_response, tabled_response];
+
+unsafe extern "C" fn lent_response(mw: u32, deviation: u16) -> u64 {
+    bench_response_from(CONTAINMENT_TABLE.as_ptr(), mw, deviation)
+}
 
 fn same_response(mw: u32, deviation: u16) {
-    let [proved, interpolated, tabled] = RESPONSE_WAYS.map(|f| unsafe { f(mw, deviation) });
-    assert_eq!(proved, interpolated);
+    let [interpolated, tabled] = PLAIN_RESPONSES.map(|f| unsafe { f(mw, deviation) });
     assert_eq!(tabled, interpolated);
+    for (_, f) in PROVED_RESPONSES {
+        assert_eq!(unsafe { f(mw, deviation) }, interpolated);
+    }
 }
 
 fn responses(random: &mut Random) {
@@ -1088,14 +1097,16 @@ fn responses(random: &mut Random) {
     for (name, most) in [("10,000 within 500 mHz", 500), ("10,000 within 3,000 mHz", 3000)] {
         let all: Vec<_> = (0..10_000).map(|_| (random.below(1001), random.below(most + 1) as u16)).collect();
         all.iter().for_each(|&(mw, deviation)| same_response(mw, deviation));
-        let ways = RESPONSE_WAYS.map(|f| {
-            let all = &all;
-            move |i: usize| {
-                let (mw, deviation) = black_box(all[i]);
-                black_box(unsafe { f(mw, deviation) });
-            }
-        });
-        compare("response", name, all.len(), &ways);
+        for (work, proved) in PROVED_RESPONSES {
+            let ways = [proved, PLAIN_RESPONSES[0], PLAIN_RESPONSES[1]].map(|f| {
+                let all = &all;
+                move |i: usize| {
+                    let (mw, deviation) = black_box(all[i]);
+                    black_box(unsafe { f(mw, deviation) });
+                }
+            });
+            compare(work, name, all.len(), &ways);
+        }
     }
 }
 

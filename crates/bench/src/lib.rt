@@ -3,10 +3,12 @@
 ghost use mathlib.Core.Path.{_≡_};
 ghost use Prim.Native.Nat.{_+_, _*_};
 ghost use Rattle.ledger.specs.Calls.{closingWith};
+ghost use Rattle.energy.specs.Containment.{responseByTable};
 ghost use Rattle.energy.specs.Curve.{containmentCurve, response};
 ghost use Rattle.energy.specs.Period.{answerOf};
 ghost use Rattle.bench.specs.Bench.{quantities, curveOf, curvesOf, oneNumber, periodNumber, openedRecord, closings, recordNumber};
 use energy::containment::response_by_table;
+use energy::containment::response_from;
 use energy::curve::Curve;
 use energy::curve::Curves;
 use energy::curve::Point;
@@ -119,6 +121,13 @@ pub extern "C" fn bench_response_by_table(mw: u32, deviation: u16) -> u64
     ensures { λ r. ⌜ r ≡ response mw containmentCurve deviation ⌝ }
 {
     response_by_table(mw, deviation)
+}
+
+#[no_mangle]
+pub extern "C" fn bench_response_from(table: &[u32; 501], mw: u32, deviation: u16) -> u64
+    ensures { λ r. ⌜ r ≡ responseByTable (now (table .entry)) mw deviation ⌝ }
+{
+    response_from(table, mw, deviation)
 }
 
 // A record just opened, for regulation alone; a blank one where opening refuses.

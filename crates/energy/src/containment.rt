@@ -4,7 +4,7 @@ ghost use mathlib.Core.Bool.{true};
 ghost use Prim.Native.Nat.{_*_};
 ghost use Rattle.common.specs.Fraction.{roundedUp};
 ghost use Rattle.energy.specs.Curve.{containmentCurve, response};
-ghost use Rattle.energy.specs.Containment.{tableRule, samePoint, isContainment};
+ghost use Rattle.energy.specs.Containment.{tableRule, responseByTable, samePoint, isContainment};
 use crate::containment_table::stored_table;
 use crate::curve::Curve;
 use crate::curve::Point;
@@ -18,13 +18,21 @@ pub(crate) fn response_by_entry(mw: u32, entry: u32) -> u64
     (mw as u64 * entry as u64 + 11099) / 11100
 }
 
-// What a service with the stock containment curve responds, in kW; entry 500 serves for larger deviations.
+// The response by a table that the caller lends, once for many responses: a constant is copied where it is used. Entry 500 serves
+// for larger deviations.
+pub fn response_from(table: &[u32; 501], mw: u32, deviation: u16) -> u64
+    ensures { λ r. ⌜ r ≡ responseByTable (now (table .entry)) mw deviation ⌝ }
+{
+    let place = common::smaller(deviation as u64, 500) as usize;
+    response_by_entry(mw, table[place])
+}
+
+// What a service with the stock containment curve responds, in kW.
 pub fn response_by_table(mw: u32, deviation: u16) -> u64
     ensures { λ r. ⌜ r ≡ response mw containmentCurve deviation ⌝ }
 {
     let table = stored_table();
-    let place = common::smaller(deviation as u64, 500) as usize;
-    response_by_entry(mw, table[place])
+    response_from(&table, mw, deviation)
 }
 
 fn same_point(p: Point, q: Point) -> bool

@@ -135,6 +135,9 @@ fn fill_by_table(factor: u32, end: usize, table: &mut [u32])
     requires { ⌜ ServiceFits factor containmentCurve end (now table) ⌝ }
     ensures { λ r. ⌜ Added 0 end (λ (d : ℕ). responseTo factor (containmentShare d)) (now (table .entry)) (now (table .exit)) ⌝ }
 {
+    if factor == 0 {
+        return;
+    }
     let entries = stored_table();
     let near = common::smaller(end as u64, 501) as usize;
     fill_by_entries(factor, &entries, near, table);

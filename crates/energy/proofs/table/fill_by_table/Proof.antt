@@ -2,13 +2,15 @@
 use Prim.Native.Nat.{min}
 use native.Mathlib.Omega.{arith}
 use borrow.Author.Needs.{needs}
+use Rattle.energy.specs.Curve.{containmentCurve}
 use Rattle.energy.specs.Table.{Added}
 use Rattle.energy.proofs.Entries.{added, added-le, found-is, fill-fits, filled}
+use Rattle.energy.proofs.Services.{none}
 use Rattle.energy.proofs.table.fill_by_table.Statement.{statement}
 use Rattle.energy.proofs.table.fill_by_table.Tie as tie
 
 abbrev start : tie.After-stored-table → tie.Start
-start t = t .before .before
+start t = t .before .before .before
 
 -- the call that adds the entries, and the table that it is given
 abbrev table-of : tie.After-fill-by-entries → tie.After-stored-table
@@ -22,6 +24,9 @@ near : (e : tie.After-fill-by-entries) →
     let a = start (table-of e) .args in
     Added 0 (min (a .end) 501) (added (a .factor)) (a .table .now) (e .fill-by-entries .last .1 .1 .1 .0)
 near e = rw (e .before .before .before .smaller .ensures) at (e .fill-by-entries .ensures)
+
+returns : tie.Need-returns
+returns c = none containmentCurve _ _ _ (c .if1 .taken)
 
 stored-table-requires : tie.Need-stored-table-requires
 stored-table-requires c κs = search needs
@@ -62,8 +67,8 @@ fill-requires c κs =
 same-length : tie.Need-same-length
 same-length c = search needs
 
-returns : tie.Need-returns
-returns c =
+returns-2 : tie.Need-returns-2
+returns-2 c =
     let g = c .before .before in
     let p = g .before .before in
     let r = p .before in
@@ -75,6 +80,7 @@ pub fill-by-table-spec : {M : Type 1} → statement M
 fill-by-table-spec =
     tie.close
     (tie.spec
+    returns
     stored-table-requires
     smaller-requires
     slice-aggregate-fill-by-entries
@@ -85,4 +91,4 @@ fill-by-table-spec =
     parts-of-requires
     fill-requires
     same-length
-    returns)
+    returns-2)
