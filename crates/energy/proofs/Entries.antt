@@ -37,7 +37,7 @@ module _ (factor : ℕ) where
       found-is d h = let m : min d 500 ≡ d = omega arith in rw m at (same-response entries keeps factor d)
 
       -- entry 500 serves for larger deviations
-      pub last-serves : (d : ℕ) → 500 ≤ d → found 500 ≡ added d
+      last-serves : (d : ℕ) → 500 ≤ d → found 500 ≡ added d
       unfolding response
       last-serves d h = let m : min d 500 ≡ 500 = omega arith in rw m at (same-response entries keeps factor d)
 
@@ -57,7 +57,7 @@ module _ (factor : ℕ) where
           pub within : d < length table
           within = omega (arith, a .long, fits .there)
 
-          pub found-here : found d ≡ added d
+          found-here : found d ≡ added d
           found-here = found-is (fits .rule) d (omega (arith, fits .has))
 
           pub sum-fits : getD table d 0 + found d < 2 ^ 32
