@@ -1,15 +1,15 @@
--- Paper 02, No. 4: a table for the containment curve, and responses and bounds by it. Assumes nothing.
+-- Paper 02, No. 4: a table for the containment curve, and responses and bounds by it, in watts by No. 5. Assumes nothing.
 use mathlib.Core.Path.{_≡_}
 use mathlib.Core.Bool.{Bool, true, false, cond, _&&_}
-use mathlib.Core.List.{List, [], _∷_, map}
-use Prim.Native.Nat.{ℕ, _+_, _*_, _≤_, min}
+use mathlib.Core.List.{List, [], _∷_}
+use Prim.Native.Nat.{ℕ, _*_, _≤_, min}
 use lib.Dec.{eqb}
 use lib.ListN.{length, getD}
 use Rattle.common.specs.Fraction.{Fraction, roundedUp}
-use Rattle.common.specs.Lists.{sum, everyFrom}
+use Rattle.common.specs.Lists.{everyFrom}
 use Rattle.terms.specs.declared.Quantities.{Quantities}
 use Rattle.energy.specs.Curve.{pointsOf, containmentCurve, shareAt, response}
-use Rattle.energy.specs.Period.{lowDeviation, highDeviation, Bounds, boundsOf}
+use Rattle.energy.specs.Period.{lowDeviation, highDeviation, responseSumBy, Bounds, boundsOf}
 use Rattle.energy.specs.Rate.{divisor}
 use Rattle.energy.specs.declared.curve.Point.{Point}
 use Rattle.energy.specs.declared.curve.Curve.{Curve}
@@ -35,9 +35,9 @@ tableRule table = eqb (length table) 501 && everyFrom 0 entryRule table
 abbrev pub entryFor : List ℕ → ℕ → ℕ
 entryFor table d = getD table (min d 500) 0
 
--- MW times the entry, divided by 11,100, rounded up
+-- 1,000 kW for each MW times the entry, divided by 11,100, rounded up
 abbrev pub responseByTable : List ℕ → ℕ → ℕ → ℕ
-responseByTable table mw d = roundedUp (mw * entryFor table d) 11100
+responseByTable table mw d = roundedUp (1000 * mw * entryFor table d) 11100
 
 abbrev pub samePoint : Point → Point → Bool
 samePoint p q = eqb (p .deviation) (q .deviation) && eqb (p .share) (q .share)
@@ -57,14 +57,9 @@ isContainment c = samePoints (pointsOf c) (pointsOf containmentCurve)
 abbrev pub serviceByTable : List ℕ → ℕ → Curve → ℕ → ℕ
 serviceByTable table mw c d = cond (isContainment c) (responseByTable table mw d) (response mw c d)
 
--- with these responses, what `responses`, `bound` and `boundsOf` are by interpolation
-abbrev pub responsesByTable : List ℕ → Quantities → Curves → ℕ → ℕ
-responsesByTable table q cs d =
-    serviceByTable table (q .dc) (cs .dc) d + serviceByTable table (q .dm) (cs .dm) d + serviceByTable table (q .dr) (cs .dr) d
-
+-- with these responses, what `bound` and `boundsOf` are by interpolation
 abbrev pub boundByTable : List ℕ → (ℕ → ℕ) → Quantities → Curves → List ℕ → ℕ
-boundByTable table deviation q cs rs =
-    roundedUp (sum (map (λ (r : ℕ). responsesByTable table q cs (deviation r)) rs)) (divisor (length rs))
+boundByTable table deviation q cs rs = roundedUp (responseSumBy (serviceByTable table) deviation q cs rs) (divisor (length rs))
 
 abbrev pub boundsByTable : List ℕ → Quantities → Quantities → Curves → List ℕ → Bounds
 boundsByTable table low high cs rs =

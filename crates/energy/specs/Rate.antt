@@ -34,9 +34,9 @@ isBlockCount count = atSomeRate (λ (rate : Rate). eqb count (blockCount rate))
 
 -- ---- what a count gives
 
--- the sum over a period's readings is divided by twice their count: 7,200, or 72,000
+-- paper 02, No. 5: the sum over a period's readings, in watts, is divided by 2,000 times their count: 7,200,000, or 72,000,000
 abbrev pub divisor : ℕ → ℕ
-divisor count = 2 * count
+divisor count = 2000 * count
 
 -- each of a block's eight periods has an eighth of its readings: 3,600, or 36,000
 abbrev pub partLength : ℕ → ℕ

@@ -63,27 +63,26 @@ pub record SegmentFits (factor : ℕ) (p q : Point) (end : ℕ) (table : List �
   pub there : end ≤ length table
   pub room : (d : ℕ) → p .deviation ≤ d → getD table d 0 + 1000 * factor < 2 ^ 32
 
--- `fill_service` and how it fills: a curve that keeps its rule, and room for 1,000 per mille of such a factor
+-- `fill_service` and how it fills, in kW: a curve that keeps its rule, and room for 1,000 per mille of such a factor
 pub record ServiceFits (factor : ℕ) (c : Curve) (end : ℕ) (table : List ℕ) : Type 0 where
   pub factor-most : factor ≤ 1000000
   pub rule : curveRule c ≡ true
   pub there : end ≤ length table
   pub room : Room (1000 * factor) table
 
--- `fill_by_entries`: a table of the stock containment curve that has the entries, and room for the same
-pub record EntriesFit (factor : ℕ) (entries : List ℕ) (end : ℕ) (table : List ℕ) : Type 0 where
-  pub factor-most : factor ≤ 1000000
+-- `fill_by_entries`: a table of the stock containment curve that has the entries, and room for what it calls for
+pub record EntriesFit (mw : ℕ) (entries : List ℕ) (end : ℕ) (table : List ℕ) : Type 0 where
   pub rule : tableRule entries ≡ true
   pub has : end ≤ 501
   pub there : end ≤ length table
-  pub room : Room (1000 * factor) table
+  pub room : Room (1000000 * mw) table
 
 -- `fill_direction`: at most 1,000 MW, curves that keep their rule, and room for all of it
 pub record DirectionFits (q : Quantities) (cs : Curves) (most : ℕ) (table : List ℕ) : Type 0 where
   pub quantity-most : Q q ≤ 1000
   pub rules : curvesRule cs ≡ true
   pub there : most < length table
-  pub room : Room (1000 * Q q) table
+  pub room : Room (1000000 * Q q) table
 
 -- ---- sums over the readings
 

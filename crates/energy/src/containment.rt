@@ -1,4 +1,4 @@
-// Paper 02, No. 4: responses of the stock containment curve by its table.
+// Paper 02, No. 4: responses of the stock containment curve by its table, in watts.
 ghost use mathlib.Core.Path.{_≡_};
 ghost use mathlib.Core.Bool.{true};
 ghost use Prim.Native.Nat.{_*_};
@@ -11,11 +11,13 @@ use crate::curve::Point;
 use crate::curve::containment_curve;
 use crate::table::fill_by_steps;
 
-// A quantity times an entry, divided by 11,100, rounded up.
+// 1,000 times a quantity times an entry, divided by 11,100, rounded up. A u64 has no room for 1,000 times the product of any two
+// u32, so what the product leaves over by 11,100 is multiplied by itself.
 pub(crate) fn response_by_entry(mw: u32, entry: u32) -> u64
-    ensures { λ r. ⌜ r ≡ roundedUp (mw * entry) 11100 ⌝ }
+    ensures { λ r. ⌜ r ≡ roundedUp (1000 * mw * entry) 11100 ⌝ }
 {
-    (mw as u64 * entry as u64 + 11099) / 11100
+    let product = mw as u64 * entry as u64;
+    product / 11100 * 1000 + (product % 11100 * 1000 + 11099) / 11100
 }
 
 // The response by a table that the caller lends, once for many responses: a constant is copied where it is used. Entry 500 serves
@@ -27,7 +29,7 @@ pub fn response_from(table: &[u32; 501], mw: u32, deviation: u16) -> u64
     response_by_entry(mw, table[place])
 }
 
-// What a service with the stock containment curve responds, in kW.
+// What a service with the stock containment curve responds.
 pub fn response_by_table(mw: u32, deviation: u16) -> u64
     ensures { λ r. ⌜ r ≡ response mw containmentCurve deviation ⌝ }
 {
@@ -52,7 +54,7 @@ pub(crate) fn is_containment(curve: Curve) -> bool
         & same_point(curve.points[2], stock.points[2])
 }
 
-// The table worked out by interpolation: what 11,100 MW respond to each deviation from 0 to 500 mHz.
+// The table worked out by interpolation: 11,100 times the share at each deviation from 0 to 500 mHz.
 pub fn interpolated_table() -> [u32; 501]
     ensures { λ r. ⌜ tableRule r ≡ true ⌝ }
 {

@@ -24,12 +24,12 @@ pub enum PeriodEnergy {
     Readings,
 }
 
-// The energy of a period, from the sum of its responses, each at most 1,000,000 kW, and the count of its readings.
+// The energy of a period, from the sum of what a direction responds to its readings, each time at most 1,000,000,000 W, and their count.
 fn period_kwh(sum: u64, count: usize) -> u32
-    requires { ⌜ isPeriodCount count ≡ true × sum ≤ 1000000 * count ⌝ }
+    requires { ⌜ isPeriodCount count ≡ true × sum ≤ 1000000000 * count ⌝ }
     ensures { λ r. ⌜ r ≡ roundedUp sum (divisor count) ⌝ }
 {
-    let divisor = 2 * count as u64;
+    let divisor = 2000 * count as u64;
     ((sum + (divisor - 1)) / divisor) as u32
 }
 

@@ -1,8 +1,7 @@
 // Period energy in three passes: the largest deviations, a table of each direction's responses by deviation, and the sums.
 ghost use mathlib.Core.Path.{_≡_};
 ghost use Prim.Native.Nat.{ℕ, _+_, _-_, _*_, _^_, min, max};
-ghost use Rattle.energy.specs.Curve.{pointsOf, containmentCurve, between, shareAt, responseTo};
-ghost use Rattle.energy.specs.Containment.{containmentShare};
+ghost use Rattle.energy.specs.Curve.{pointsOf, containmentCurve, between, shareAt, responseTo, response};
 ghost use Rattle.energy.specs.Period.{highDeviation, responses, BeforeReadings};
 ghost use Rattle.energy.specs.Table.{largestDeviations, Added, wholes, FillFits, SegmentFits, ServiceFits, EntriesFit, DirectionFits, tableSums, Covered, responseSums, WithinRange};
 use crate::containment::is_containment;
@@ -75,8 +74,8 @@ fn parts_of(response: u32) -> u64
     response as u64 * 4294967296 + 4294967295
 }
 
-// Adds the responses between two points of a curve, a factor times the share. The one division is that of the step:
-// the parts that it cuts off are too few, over 3,000 deviations, to change a response.
+// Adds a factor times the share between two points of a curve. The one division is that of the step:
+// the parts that it cuts off are too few, over 3,000 deviations, to change what is added.
 fn fill_segment(factor: u32, p: Point, q: Point, end: usize, table: &mut [u32])
     requires { ⌜ SegmentFits factor p q end (now table) ⌝ }
     ensures { λ r. ⌜ Added (p .deviation) (min end (q .deviation)) (λ (d : ℕ). responseTo factor (between p q d)) (now (table .entry)) (now (table .exit)) ⌝ }
@@ -92,7 +91,7 @@ fn fill_segment(factor: u32, p: Point, q: Point, end: usize, table: &mut [u32])
     );
 }
 
-// Adds the responses of a service to each deviation below an end, by steps from point to point.
+// Adds a factor times a curve's share at each deviation below an end, by steps from point to point.
 pub(crate) fn fill_by_steps(factor: u32, curve: Curve, end: usize, table: &mut [u32])
     requires { ⌜ ServiceFits factor curve end (now table) ⌝ }
     ensures { λ r. ⌜ Added 0 end (λ (d : ℕ). responseTo factor (shareAt (pointsOf curve) d)) (now (table .entry)) (now (table .exit)) ⌝ }
@@ -118,42 +117,42 @@ pub(crate) fn fill_by_steps(factor: u32, curve: Curve, end: usize, table: &mut [
     );
 }
 
-// Adds what a factor of the stock containment curve responds to each deviation below an end, by entries of its table.
-fn fill_by_entries(factor: u32, entries: &[u32], end: usize, table: &mut [u32])
-    requires { ⌜ EntriesFit factor (now entries) end (now table) ⌝ }
-    ensures { λ r. ⌜ Added 0 end (λ (d : ℕ). responseTo factor (containmentShare d)) (now (table .entry)) (now (table .exit)) ⌝ }
+// Adds what a service with the stock containment curve responds to each deviation below an end, by entries of its table.
+fn fill_by_entries(mw: u32, entries: &[u32], end: usize, table: &mut [u32])
+    requires { ⌜ EntriesFit mw (now entries) end (now table) ⌝ }
+    ensures { λ r. ⌜ Added 0 end (response mw containmentCurve) (now (table .entry)) (now (table .exit)) ⌝ }
 {
     let mut d: usize = 0;
     while d < end {
-        table[d] += response_by_entry(factor, entries[d]) as u32;
+        table[d] += response_by_entry(mw, entries[d]) as u32;
         d += 1;
     }
 }
 
 // The same to any end: entry 500 serves for larger deviations.
-fn fill_by_table(factor: u32, end: usize, table: &mut [u32])
-    requires { ⌜ ServiceFits factor containmentCurve end (now table) ⌝ }
-    ensures { λ r. ⌜ Added 0 end (λ (d : ℕ). responseTo factor (containmentShare d)) (now (table .entry)) (now (table .exit)) ⌝ }
+fn fill_by_table(mw: u32, end: usize, table: &mut [u32])
+    requires { ⌜ ServiceFits (1000 * mw) containmentCurve end (now table) ⌝ }
+    ensures { λ r. ⌜ Added 0 end (response mw containmentCurve) (now (table .entry)) (now (table .exit)) ⌝ }
 {
-    if factor == 0 {
+    if mw == 0 {
         return;
     }
     let entries = stored_table();
     let near = common::smaller(end as u64, 501) as usize;
-    fill_by_entries(factor, &entries, near, table);
-    let last = response_by_entry(factor, entries[500]) as u32;
+    fill_by_entries(mw, &entries, near, table);
+    let last = response_by_entry(mw, entries[500]) as u32;
     fill(parts_of(last), 0, 501, end, table);
 }
 
-// Adds the responses of a service. Where a table may serve, the curve decides whether it does.
-fn fill_service(factor: u32, curve: Curve, end: usize, table: &mut [u32], by_table: bool)
-    requires { ⌜ ServiceFits factor curve end (now table) ⌝ }
-    ensures { λ r. ⌜ Added 0 end (λ (d : ℕ). responseTo factor (shareAt (pointsOf curve) d)) (now (table .entry)) (now (table .exit)) ⌝ }
+// Adds the responses of a service, in watts. Where a table may serve, the curve decides whether it does.
+fn fill_service(mw: u32, curve: Curve, end: usize, table: &mut [u32], by_table: bool)
+    requires { ⌜ ServiceFits (1000 * mw) curve end (now table) ⌝ }
+    ensures { λ r. ⌜ Added 0 end (response mw curve) (now (table .entry)) (now (table .exit)) ⌝ }
 {
     if by_table & is_containment(curve) {
-        fill_by_table(factor, end, table);
+        fill_by_table(mw, end, table);
     } else {
-        fill_by_steps(factor, curve, end, table);
+        fill_by_steps(1000 * mw, curve, end, table);
     }
 }
 
