@@ -10,6 +10,7 @@ mod host;
 mod host_cases;
 mod instruction_cases;
 mod instructions;
+mod kilowatts;
 mod model;
 mod papers;
 mod random;
@@ -42,6 +43,7 @@ fn main() {
     instruction_cases::damaged(tally);
     instruction_cases::lists(random, 2_000, tally);
     trace_cases::energy_edges(random, runs, tally);
+    kilowatts::edges(runs, tally);
     trace_cases::table_edges(random, runs, tally);
     trace_cases::count_edges(runs, tally);
     trace_cases::block_edges(runs, tally);
@@ -56,6 +58,8 @@ fn main() {
         instruction_cases::any_damaged(random, 500, tally);
         for _ in 0..4 {
             runs.add(trace_cases::energy(random), tally);
+            runs.add(kilowatts::any(random), tally);
+            runs.add(kilowatts::small(random), tally);
             runs.add(trace_cases::block(random), tally);
             runs.add(trace_cases::opening(random), tally);
             runs.add(trace_cases::list(random), tally);
@@ -74,6 +78,9 @@ fn main() {
     println!("events of lists by the state before and the state once what was due has happened, and how often each led where");
     tally.print_kinds();
     instruction_cases::all_reached(tally);
+    println!("bounds by readings of the period and direction, and how many are how many kWh below those by kilowatts");
+    tally.print_falls();
+    kilowatts::all_reached(tally);
     println!(
         "compare: {} cases, no difference (seed {seed})",
         tally.total()

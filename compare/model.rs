@@ -1,5 +1,5 @@
-//! Paper 01 and No. 1 and 4 of paper 02, written out from the papers alone, plain and slow. Every number is an i128, which none of
-//! the sums and products here leaves, and every division is an exact fraction, rounded where the papers round.
+//! Paper 01 and No. 1, 4 and 5 of paper 02, written out from the papers alone, plain and slow. Every number is an i128, which
+//! none of the sums and products here leaves, and every division is an exact fraction, rounded where the papers round.
 //!
 //! A refusal is its number in paper 01's table "When a call declines"; 0 is no refusal.
 
@@ -181,9 +181,10 @@ impl Rate {
         PERIODS * self.period()
     }
 
-    /// "Divided by 7,200"; No. 1: "divided by 72,000". From kW in each reading to kWh: the readings of an hour, two periods.
+    /// "Divided by 7,200"; No. 1: "divided by 72,000"; No. 5: "The period sum is divided by 7,200,000, or 72,000,000 at 20 Hz."
+    /// From W in each reading to kWh: 1,000 times the readings of an hour, two periods.
     pub fn divisor(self) -> Int {
-        2 * self.period() as Int
+        1_000 * 2 * self.period() as Int
     }
 
     /// The rate of a period with so many readings. No. 1: "Refusal 6 now covers every other count."
@@ -239,9 +240,10 @@ pub fn containment() -> Curve {
     Curve(vec![(15, 0), (200, 50), (500, 1_000)])
 }
 
-/// "A service's response to a reading is its MW times the share, in kW, rounded up after the one division."
+/// "A service's response to a reading is its MW times the share, in kW, rounded up after the one division." No. 5: "A service's
+/// response becomes whole watts, rounded up." A MW has 1,000 W for each per mille.
 pub fn response(mw: Int, curve: &Curve, deviation: Int) -> Int {
-    curve.share(deviation).times(mw).rounded_up()
+    curve.share(deviation).times(1_000 * mw).rounded_up()
 }
 
 pub fn good_reading(reading: u16) -> bool {
@@ -254,21 +256,55 @@ fn deviations(reading: u16) -> (Int, Int) {
     (below.max(0), (-below).max(0))
 }
 
-/// Both bounds of readings that refusal 6 lets through: "the sum over readings and services divided by" the rate's divisor,
-/// "rounded up once". Equal readings in a row are added as one product, their count times the response.
-fn bounds(low: &Direction, high: &Direction, curves: &[Curve; 3], readings: &[u16]) -> (Int, Int) {
-    let rate = Rate::of_period(readings.len()).expect("a period's count");
-    let mut sums = (0, 0);
+/// "The sum over readings and services", low and high, of what `service` responds by its MW, its curve and a deviation. Equal
+/// readings in a row are added as one product, their count times the response.
+fn sums(
+    service: fn(Int, &Curve, Int) -> Int,
+    low: &Direction,
+    high: &Direction,
+    curves: &[Curve; 3],
+    readings: &[u16],
+) -> [Int; 2] {
+    let mut sums = [0, 0];
     for equal in readings.chunk_by(|a, b| a == b) {
         let count = equal.len() as Int;
         let (below, above) = deviations(equal[0]);
         for s in 0..3 {
-            sums.0 += count * response(low.0[s], &curves[s], below);
-            sums.1 += count * response(high.0[s], &curves[s], above);
+            sums[0] += count * service(low.0[s], &curves[s], below);
+            sums[1] += count * service(high.0[s], &curves[s], above);
         }
     }
-    let energy = |sum| Fraction::new(sum, rate.divisor()).rounded_up();
-    (energy(sums.0), energy(sums.1))
+    sums
+}
+
+/// Low and high energy, in kWh, of readings that refusal 6 lets through: the sum "divided by" the rate's divisor.
+pub fn energies(
+    low: &Direction,
+    high: &Direction,
+    curves: &[Curve; 3],
+    readings: &[u16],
+) -> [Fraction; 2] {
+    let rate = Rate::of_period(readings.len()).expect("a period's count");
+    sums(response, low, high, curves, readings).map(|sum| Fraction::new(sum, rate.divisor()))
+}
+
+/// The same by 01's rule, for the comparison with it alone (No. 5: "Bounds can only fall or stay"): the response is "its MW times
+/// the share, in kW, rounded up after the one division", and the sum "divided by 7,200", by No. 1 "72,000", twice the count.
+pub fn energies_by_kilowatts(
+    low: &Direction,
+    high: &Direction,
+    curves: &[Curve; 3],
+    readings: &[u16],
+) -> [Fraction; 2] {
+    let kilowatts = |mw, curve: &Curve, deviation| curve.share(deviation).times(mw).rounded_up();
+    let divisor = 2 * readings.len() as Int;
+    sums(kilowatts, low, high, curves, readings).map(|sum| Fraction::new(sum, divisor))
+}
+
+/// Both bounds: the energy "rounded up once".
+fn bounds(low: &Direction, high: &Direction, curves: &[Curve; 3], readings: &[u16]) -> (Int, Int) {
+    let [low, high] = energies(low, high, curves, readings).map(Fraction::rounded_up);
+    (low, high)
 }
 
 /// Cause 6 for the readings of a period.
@@ -334,9 +370,9 @@ pub fn table() -> Vec<Int> {
     (0..=500).map(entry).collect()
 }
 
-/// The response of a service that has the containment curve, by the table.
+/// The response of a service that has the containment curve, by the table, in W (No. 5).
 pub fn response_by_table(mw: Int, deviation: Int) -> Int {
-    Fraction::new(mw * entry(deviation), SCALE).rounded_up()
+    Fraction::new(1_000 * mw * entry(deviation), SCALE).rounded_up()
 }
 
 // Requirement

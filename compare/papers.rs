@@ -1,5 +1,5 @@
-//! The examples of paper 01, the counts of both papers, what 02 prints of its table and the tables of documents 000 and 003 as
-//! they are printed, held to the model and compared.
+//! The examples of paper 01, the counts and divisors of both papers, what 02 prints of its table and of the response in watts,
+//! and the tables of documents 000 and 003 as they are printed, held to the model and compared.
 
 use crate::host;
 use crate::model::{self, containment, regulation, Direction, Int, Levels, Terms, RATES};
@@ -70,12 +70,12 @@ pub fn compare(runs: &mut Runs, tally: &mut Tally) {
     runs.add(ledger(), tally);
 }
 
-/// "A period has 3,600 readings"; "divided by 7,200"; "a block has 28,800 readings". 02, No. 1: "A period of 36,000 readings
-/// is to be accepted; its sum is divided by 72,000"; "a block may then have 288,000 readings".
+/// "A period has 3,600 readings"; "a block has 28,800 readings". 02, No. 1: "A period of 36,000 readings is to be accepted"; "a
+/// block may then have 288,000 readings". No. 5: "The period sum is divided by 7,200,000, or 72,000,000 at 20 Hz."
 fn rates() {
     printed(
         "period, divisor and block",
-        [(3_600, 7_200, 28_800), (36_000, 72_000, 288_000)],
+        [(3_600, 7_200_000, 28_800), (36_000, 72_000_000, 288_000)],
         RATES.map(|rate| (rate.period(), rate.divisor(), rate.block())),
     );
 }
@@ -190,22 +190,26 @@ fn table(table: &Table, direction: Direction, number: Int, tally: &mut Tally) {
     }
 }
 
-/// "Regulation, 100 MW: 49,985 gives 0 kW; 49,984 gives 541; 49,800 gives 100,000." "All 3,600 at 49,984: 271 kWh." The
-/// other energies follow from the kW. 02, No. 1: 36,000 × 541 / 72,000 is 270.5, and rounded up 271 too.
+/// "Regulation, 100 MW: 49,985 gives 0 kW; 49,984 gives 541; 49,800 gives 100,000." 02, No. 5: "A reading of 49,984 under 100 MW
+/// of regulation gives 540,541 W, in place of 01's 541 kW": 541 kW are half as many kWh in half an hour. "All 3,600 at 49,984:
+/// 271 kWh": 3,600 × 540,541 / 7,200,000 and 36,000 × 540,541 / 72,000,000 are 270.27, rounded up. The other energies follow from
+/// the W.
 fn energy() -> Script {
-    for (deviation, kw) in [(15, 0), (16, 541), (200, 100_000)] {
+    for (deviation, watts) in [(15, 0), (16, 540_541), (200, 100_000_000)] {
         printed(
             "response",
-            kw,
+            watts,
             model::response(100, &regulation(), deviation),
         );
     }
+    let (dr, none) = (Direction([0, 0, 100]), Direction::default());
+    let curves = [containment(), regulation(), regulation()];
     let mut script = Script::new(TOPIC);
-    script.curves(&[containment(), regulation(), regulation()]);
+    script.curves(&curves);
     let mut constant = |reading, line: &str| {
         for count in [3_600, 36_000] {
             script.read(reading, count);
-            script.energy(&Direction([0, 0, 100]), &Direction::default());
+            script.energy(&dr, &none);
             script.printed(line);
         }
     };
@@ -213,6 +217,10 @@ fn energy() -> Script {
     constant(49_984, "energy 0 271 0");
     constant(49_800, "energy 0 50000 0");
     constant(50_016, "energy 0 0 0");
+    for count in [3_600, 36_000] {
+        let [low, _] = model::energies_by_kilowatts(&dr, &none, &curves, &vec![49_984; count]);
+        printed("01's 541 kW", 541, low.times(2).exact());
+    }
     script
 }
 
@@ -233,19 +241,20 @@ fn containment_table() {
     }
 }
 
-/// The containment curve's points in kW: 100 MW respond with 100 times the share. Past the last "500 serving for larger
-/// deviations". A share of 50 / 185 is 10 kW for 37 MW, and for 36 or 38 rounded up.
+/// The containment curve's points in W: 100 MW respond with 100,000 times the share. Past the last "500 serving for larger
+/// deviations". At 16 mHz the share is 50 / 185: 37 MW respond with 37,000 × 50 / 185 = 10,000 W, 36 with 9,729.7 rounded up and
+/// 38 with 10,270.3 rounded up.
 fn responses_by_table() -> Script {
     let mut script = Script::new(TOPIC);
     for (mw, deviation, line) in [
         (100, 15, "respond 0"),
-        (100, 200, "respond 5000"),
-        (100, 500, "respond 100000"),
-        (100, 501, "respond 100000"),
-        (100, 3_000, "respond 100000"),
-        (36, 16, "respond 10"),
-        (37, 16, "respond 10"),
-        (38, 16, "respond 11"),
+        (100, 200, "respond 5000000"),
+        (100, 500, "respond 100000000"),
+        (100, 501, "respond 100000000"),
+        (100, 3_000, "respond 100000000"),
+        (36, 16, "respond 9730"),
+        (37, 16, "respond 10000"),
+        (38, 16, "respond 10271"),
     ] {
         script.respond(mw, deviation);
         script.printed(line);

@@ -1,13 +1,15 @@
 //! Counts of cases, and the end of the program at a difference.
 
+use crate::model::Int;
 use std::collections::BTreeMap;
-use std::fmt::Debug;
+use std::fmt::{Debug, Display};
 use std::fs;
 
 #[derive(Default)]
 pub struct Tally {
     counts: BTreeMap<(&'static str, &'static str), BTreeMap<i64, u64>>,
     kinds: BTreeMap<[&'static str; 4], u64>,
+    falls: BTreeMap<(usize, &'static str), BTreeMap<Int, u64>>,
 }
 
 impl Tally {
@@ -26,6 +28,20 @@ impl Tally {
         self.kinds.clone()
     }
 
+    /// Low and high bound of a period of `count` readings are so many kWh below 01's.
+    pub fn fall(&mut self, count: usize, by: [Int; 2]) {
+        for (direction, by) in ["low", "high"].into_iter().zip(by) {
+            let falls = self.falls.entry((count, direction)).or_default();
+            *falls.entry(by).or_default() += 1;
+        }
+    }
+
+    /// How many bounds of that count and direction are `by` below 01's.
+    pub fn fell(&self, count: usize, direction: &'static str, by: Int) -> u64 {
+        let falls = self.falls.get(&(count, direction));
+        falls.and_then(|f| f.get(&by)).copied().unwrap_or(0)
+    }
+
     pub fn total(&self) -> u64 {
         self.counts.values().flat_map(|n| n.values()).sum()
     }
@@ -34,8 +50,14 @@ impl Tally {
     pub fn print(&self) {
         for ((topic, call), numbers) in &self.counts {
             let all: u64 = numbers.values().sum();
-            let each: Vec<String> = numbers.iter().map(|(n, c)| format!("{n}: {c}")).collect();
-            println!("{topic:16} {call:12} {all:8}   {}", each.join(", "));
+            println!("{topic:16} {call:12} {all:8}   {}", each(numbers));
+        }
+    }
+
+    /// A line for each count of readings and direction: how many bounds are how far below 01's.
+    pub fn print_falls(&self) {
+        for ((count, direction), falls) in &self.falls {
+            println!("{count:16} {direction:12} {}", each(falls));
         }
     }
 
@@ -51,6 +73,11 @@ impl Tally {
             println!("{before:16} {now:16} {}", each.join(", "));
         }
     }
+}
+
+fn each<T: Display>(counts: &BTreeMap<T, u64>) -> String {
+    let each: Vec<String> = counts.iter().map(|(n, c)| format!("{n}: {c}")).collect();
+    each.join(", ")
 }
 
 /// Prints the first difference and the input that shows it, and ends the program with status 1.

@@ -1,6 +1,6 @@
 //! The program ledger_trace: texts for it with the lines that the model expects, and runs of it.
 
-use crate::model::{self, Curve, Direction, Entries, Int, Record, Terms};
+use crate::model::{self, Curve, Direction, Entries, Fraction, Int, Record, Terms};
 use crate::tally::{printed, stop, Tally};
 use std::fs::{self, File};
 use std::process::{Command, Stdio};
@@ -18,6 +18,8 @@ struct Line {
     fed: usize,
     /// The call and its number, on a call's first line.
     call: Option<(&'static str, i64)>,
+    /// The readings of a period and 01's bounds of them, where the line's are compared with these.
+    by_kilowatts: Option<(usize, [Int; 2])>,
 }
 
 /// A list of calls as text, beside what the model answers to each.
@@ -72,7 +74,12 @@ impl Script {
 
     fn push(&mut self, text: String, call: Option<(&'static str, i64)>) {
         let fed = self.text.len();
-        self.lines.push(Line { text, fed, call });
+        self.lines.push(Line {
+            text,
+            fed,
+            call,
+            by_kilowatts: None,
+        });
     }
 
     fn expect_record(&mut self) {
@@ -205,6 +212,17 @@ impl Script {
         self.period("energy", low, high)
     }
 
+    /// Period energy of readings that nothing refuses; what the program prints is compared with 01's bounds of them too. No. 5:
+    /// "Bounds can only fall or stay." Low and high, the bound and 01's.
+    pub fn energy_and_kilowatts(&mut self, low: &Direction, high: &Direction) -> [(Int, Int); 2] {
+        let count = self.readings.len();
+        let by_kilowatts = model::energies_by_kilowatts(low, high, &self.curves, &self.readings)
+            .map(Fraction::rounded_up);
+        let (_, low, high) = self.energy(low, high);
+        self.lines.last_mut().unwrap().by_kilowatts = Some((count, by_kilowatts));
+        [(low, by_kilowatts[0]), (high, by_kilowatts[1])]
+    }
+
     /// Period energy, then the same by table of the same readings. No. 4: "Energies by table equal those by interpolation."
     pub fn energy_and_table(&mut self, low: &Direction, high: &Direction) -> (i64, Int, Int) {
         let readings = self.readings.clone();
@@ -290,6 +308,16 @@ pub fn numbers(record: &Record) -> Vec<(Int, Int)> {
     places().map(|k| (k, *place(&mut record, k))).collect()
 }
 
+/// How far both bounds of a line of an energy are below 01's, where each is so by 0 to 2 kWh. More cannot be: three services lose
+/// less than a kW each to the rounding by kilowatts, together less than 1.5 kWh in half an hour, and the last rounding adds the
+/// rest.
+fn falls(line: &str, by_kilowatts: [Int; 2]) -> Option<[Int; 2]> {
+    let (low, high) = line.strip_prefix("energy 0 ")?.split_once(' ')?;
+    let bounds: [Int; 2] = [low.parse().ok()?, high.parse().ok()?];
+    let falls = [0, 1].map(|i| by_kilowatts[i] - bounds[i]);
+    falls.iter().all(|by| (0..=2).contains(by)).then_some(falls)
+}
+
 /// The scripts that go into one run of ledger_trace, one after the other.
 pub struct Runs {
     program: String,
@@ -343,9 +371,16 @@ impl Runs {
         for script in &scripts {
             for line in &script.lines {
                 let found = found.next().unwrap_or("(no line)");
+                let fed = script.text[..line.fed].as_bytes();
+                if let Some((count, bounds)) = line.by_kilowatts {
+                    let Some(falls) = falls(found, bounds) else {
+                        let expected = format!("bounds from 0 to 2 below {bounds:?}, 01's");
+                        stop(script.topic, fed, &expected, found);
+                    };
+                    tally.fall(count, falls);
+                }
                 if found != line.text {
-                    let fed = &script.text[..line.fed];
-                    stop(script.topic, fed.as_bytes(), &line.text, found);
+                    stop(script.topic, fed, &line.text, found);
                 }
                 if let Some((call, number)) = line.call {
                     tally.count(script.topic, call, number);

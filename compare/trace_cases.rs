@@ -16,7 +16,7 @@ const BAD_READINGS: [u16; 6] = [46_999, 53_001, 0, 1, 40_000, u16::MAX];
 
 // Curves and readings
 
-fn good_curve(random: &mut Random) -> Curve {
+pub fn good_curve(random: &mut Random) -> Curve {
     match random.below(6) {
         0 => return regulation(),
         1 => return containment(),
@@ -31,7 +31,7 @@ fn good_curve(random: &mut Random) -> Curve {
     Curve(deviations.into_iter().zip(shares).collect())
 }
 
-fn good_curves(random: &mut Random) -> [Curve; 3] {
+pub fn good_curves(random: &mut Random) -> [Curve; 3] {
     [(); 3].map(|()| good_curve(random))
 }
 
@@ -108,7 +108,7 @@ fn corners(curves: &[Curve; 3]) -> Vec<u16> {
 
 /// Where a period's readings lie.
 #[derive(Clone, Copy)]
-enum Weather {
+pub enum Weather {
     Calm,
     Low,
     High,
@@ -119,7 +119,7 @@ enum Weather {
 const STEPS: usize = 3_000;
 
 /// The same where a script has many walks.
-const FEW_STEPS: usize = 400;
+pub const FEW_STEPS: usize = 400;
 
 /// A period's readings in about so many steps, each held for one reading or, where the period has more, for several.
 fn walk(
@@ -141,7 +141,7 @@ fn walk(
 }
 
 /// A period's readings, all good: one value, few runs of corners, or a walk.
-fn good_readings(
+pub fn good_readings(
     random: &mut Random,
     weather: Weather,
     curves: &[Curve; 3],
@@ -249,8 +249,115 @@ fn divisor(a: Int, b: Int) -> Int {
     }
 }
 
-/// Each once at each rate: curves broken in each way, readings at each corner, each reading by itself, sums around multiples of
-/// what divides them, sums from a place on.
+/// What a direction's services respond to each deviation from 0 to 3,000 together, in W.
+pub fn responses(direction: &Direction, curves: &[Curve; 3]) -> Vec<Int> {
+    let service = |s: usize, d| model::response(direction.0[s], &curves[s], d);
+    let together = |d| (0..3).map(|s| service(s, d)).sum();
+    (0..=3_000).map(together).collect()
+}
+
+/// Any four of the deviations at which the responses rise, where there are some.
+fn any_four(random: &mut Random, responses: &[Int]) -> Option<[usize; 4]> {
+    let mut kinds: Vec<usize> = (0..responses.len()).collect();
+    kinds.retain(|&d| responses[d] > 0);
+    kinds.dedup_by_key(|d| responses[*d]);
+    let some = !kinds.is_empty();
+    some.then(|| [(); 4].map(|()| random.pick(&kinds)))
+}
+
+/// Readings that bring a sum of W to a multiple of the divisor, or to one W past it: at a multiple a W more changes the bound,
+/// and past it a W less. They are of four deviations, fewer than `each` of each.
+struct Filling {
+    each: i64,
+    divisor: i64,
+    deviations: [usize; 4],
+    responses: [i64; 4],
+    /// What so many readings of the first two leave by the divisor, in order.
+    firsts: Vec<(i64, [i64; 2])>,
+}
+
+impl Filling {
+    fn new(deviations: [usize; 4], responses: &[Int], rate: Rate, each: usize) -> Filling {
+        let divisor = rate.divisor() as i64;
+        let each = each as i64;
+        let responses = deviations.map(|d| responses[d] as i64);
+        let left = |m, n| (m * responses[0] + n * responses[1]) % divisor;
+        let counts = (0..each).flat_map(|m| (0..each).map(move |n| [m, n]));
+        let mut firsts: Vec<_> = counts.map(|[m, n]| (left(m, n), [m, n])).collect();
+        firsts.sort();
+        Filling {
+            each,
+            divisor,
+            deviations,
+            responses,
+            firsts,
+        }
+    }
+
+    /// Deviations and how many readings have them, if some are found that bring the sum `past` W past a multiple.
+    fn to(&self, sum: Int, past: Int) -> Option<[(Int, usize); 4]> {
+        let wanted = (past - sum).rem_euclid(self.divisor.into()) as i64;
+        for m in 0..self.each {
+            for n in 0..self.each {
+                let more = m * self.responses[2] + n * self.responses[3];
+                let wanted = (wanted - more).rem_euclid(self.divisor);
+                if let Ok(at) = self.firsts.binary_search_by_key(&wanted, |first| first.0) {
+                    let [k, l] = self.firsts[at].1;
+                    let [a, b, c, d] = self.deviations.map(|d| d as Int);
+                    return Some([(a, k), (b, l), (c, m), (d, n)].map(|(d, n)| (d, n as usize)));
+                }
+            }
+        }
+        None
+    }
+}
+
+/// Changes some readings of each direction so that its sum is at a multiple of the divisor or one W past it, where that can be.
+pub fn bring_to_multiples(
+    random: &mut Random,
+    directions: [&Direction; 2],
+    curves: &[Curve; 3],
+    rate: Rate,
+    readings: &mut [u16],
+) {
+    let each = 150;
+    let changed = 2 * 4 * each;
+    let mut at = random.below(rate.period() - changed);
+    readings[at..at + changed].fill(50_000);
+    for (direction, side) in directions.into_iter().zip([-1, 1]) {
+        let responses = responses(direction, curves);
+        let deviation = |reading: u16| (side * (Int::from(reading) - 50_000)).max(0);
+        let sum = readings
+            .iter()
+            .map(|&r| responses[deviation(r) as usize])
+            .sum();
+        let past = random.between(0, 1);
+        let four = any_four(random, &responses);
+        let filled = four.and_then(|four| Filling::new(four, &responses, rate, each).to(sum, past));
+        for (deviation, times) in filled.unwrap_or_default() {
+            readings[at..at + times].fill(beside(side, deviation));
+            at += times;
+        }
+    }
+}
+
+/// The reading with this deviation, below 50,000 (side −1) or above (1).
+pub fn beside(side: Int, deviation: Int) -> u16 {
+    (50_000 + side * deviation) as u16
+}
+
+/// Reads `count` deviations with this sum, as even as they can be.
+fn read_evenly(script: &mut Script, side: Int, count: usize, sum: usize) {
+    let (each, more) = (sum / count.max(1), sum % count.max(1));
+    for (deviation, times) in [(each + 1, more), (each, count - more)] {
+        if times > 0 {
+            script.read(beside(side, deviation as Int), times);
+        }
+    }
+}
+
+/// Each once at each rate: curves broken in each way, readings at each corner, each reading by itself, a W more or less along
+/// segments, sums around multiples of what divides them, sums from a place on.
 pub fn energy_edges(random: &mut Random, runs: &mut Runs, tally: &mut Tally) {
     for rate in RATES {
         for count in 1..=5 {
@@ -265,6 +372,10 @@ pub fn energy_edges(random: &mut Random, runs: &mut Runs, tally: &mut Tally) {
             (2_048, 1_000),
         ] {
             runs.add(wide_segments(random, rate, width, rise), tally);
+        }
+        runs.add(last_steps(random, rate), tally);
+        for past in 0..=1 {
+            runs.add(each_step(rate, past), tally);
         }
         for curves in [
             [containment(), regulation(), regulation()],
@@ -312,24 +423,103 @@ fn range_ends(rate: Rate) -> Script {
     script
 }
 
-/// A segment as wide as can be, at deviations where MW times the share is a whole number, and beside them.
+/// A segment as wide as can be, at deviations where the response before its rounding is a whole number of W, just above one and
+/// just below.
 fn wide_segments(random: &mut Random, rate: Rate, width: Int, rise: Int) -> Script {
     let mut script = Script::new(EDGES);
-    let curve = Curve(vec![(3_000 - width, 0), (3_000, rise)]);
-    script.curves(&[curve.clone(), curve.clone(), curve]);
-    for mw in [1, 7, 997, 1_000] {
-        let step = width / divisor(width, mw * rise);
-        for _ in 0..6 {
-            let whole = step * random.within(0, width / step);
-            for past in [whole - 1, whole, whole + 1] {
-                let d = (3_000 - width + past).clamp(0, 3_000) as u16;
-                script.read(50_000 - d, rate.period() / 2);
-                script.read(50_000 + d, rate.period() / 2);
-                script.energy(&Direction([mw, 0, 0]), &Direction([0, 0, mw]));
-            }
+    for mw in [1, 7, 900, 999] {
+        let over = 1_000 * mw * rise;
+        let least = divisor(width, over);
+        for left in [0, least % width, width - least] {
+            let steps = (1..=width).filter(|step| over * step % width == left);
+            let at: Vec<Int> = steps.map(|step| 3_000 - width + step).collect();
+            let places = [at[0], random.pick(&at), at[at.len() - 1]];
+            one_watt(random, &mut script, rate, mw, (width, rise), &places);
         }
     }
     script
+}
+
+/// Segments of many widths at their last mHz but one, where the response before its rounding is just above a whole number of W:
+/// what is lost in each step from mHz to mHz has added up there.
+fn last_steps(random: &mut Random, rate: Rate) -> Script {
+    let mut script = Script::new(EDGES);
+    for width in (2_801..3_000).filter(|&width| divisor(width, 10) == 1) {
+        // Each step is 1 / width W less than a whole number, so that all but the last lead 1 / width W above one.
+        let segment = |mw| (1..=1_000).map(move |rise| (mw, rise));
+        let mut segments = (1..=999).rev().flat_map(segment);
+        let (mw, rise) = segments
+            .find(|(mw, rise)| 1_000 * mw * rise % width == width - 1)
+            .expect("a segment of this width");
+        one_watt(random, &mut script, rate, mw, (width, rise), &[2_999]);
+    }
+    script
+}
+
+/// 1,000 MW at each deviation, with sums `past` W past a multiple of the divisor. The two segments leave different parts of a W,
+/// by which they reach any sum.
+fn each_step(rate: Rate, past: Int) -> Script {
+    let mut script = Script::new(EDGES);
+    let all = Direction([1_000, 0, 0]);
+    let segments = Curve(vec![(0, 0), (1_501, 499), (3_000, 1_000)]);
+    let curves = [segments, regulation(), regulation()];
+    script.curves(&curves);
+    let responses = responses(&all, &curves);
+    let filling = Filling::new([311, 1_111, 1_999, 2_777], &responses, rate, 200);
+    for deviation in 1..=3_000 {
+        let filled = filling.to(responses[deviation as usize], past);
+        read_filled(&mut script, rate, deviation, filled.expect("such a sum"));
+        script.energy(&all, &all);
+    }
+    script
+}
+
+/// A segment up to 3,000 mHz, and energies in which a W more or less at one of the places changes a bound. The sums are brought
+/// to a multiple of the divisor, and one W past it, with the help of a second service.
+fn one_watt(
+    random: &mut Random,
+    script: &mut Script,
+    rate: Rate,
+    mw: Int,
+    (width, rise): (Int, Int),
+    places: &[Int],
+) {
+    let segment = Curve(vec![(3_000 - width, 0), (3_000, rise)]);
+    let second = [
+        (0, 0),
+        (701, 90),
+        (1_499, 301),
+        (2_203, 612),
+        (3_000, 1_000),
+    ];
+    let curves = [segment, Curve(second.to_vec()), regulation()];
+    let both = Direction([mw, (1_000 - mw).min(100), 0]);
+    script.curves(&curves);
+    let responses = responses(&both, &curves);
+    for &place in places {
+        for past in 0..=1 {
+            let filled = (0..100).find_map(|_| {
+                let four = any_four(random, &responses)?;
+                Filling::new(four, &responses, rate, 100).to(responses[place as usize], past)
+            });
+            let filled = filled.expect("a second service that helps");
+            read_filled(script, rate, place, filled);
+            script.energy(&both, &both);
+        }
+    }
+}
+
+/// One reading with this deviation in each direction, those that bring the sum to a multiple, and else 50,000.
+fn read_filled(script: &mut Script, rate: Rate, deviation: Int, filled: [(Int, usize); 4]) {
+    let mut rest = rate.period();
+    for (deviation, times) in [(deviation, 1)].into_iter().chain(filled) {
+        if times > 0 {
+            script.read(beside(-1, deviation), times);
+            script.read(beside(1, deviation), times);
+            rest -= 2 * times;
+        }
+    }
+    script.read(50_000, rest);
 }
 
 /// Every reading at least once; the least energy that a single reading gives.
@@ -363,62 +553,74 @@ fn full_walk(random: &mut Random, rate: Rate, curves: &[Curve; 3]) -> Script {
     script
 }
 
-/// A curve by which n MW respond to a deviation of d with n × d kW.
-fn proportional() -> Curve {
+/// A curve by which n MW respond to a deviation of d with n × d W.
+pub fn watts() -> Curve {
+    Curve(vec![(0, 0), (3_000, 3)])
+}
+
+/// A curve by which they respond with n × d kW, up to 1,000 mHz.
+fn kilowatts() -> Curve {
     Curve(vec![(0, 0), (1_000, 1_000)])
 }
 
-/// `count` deviations with this sum, as even as they can be.
-fn deviations(count: usize, sum: usize) -> Vec<u16> {
-    let mut deviations = vec![(sum / count) as u16; count];
-    deviations[..sum % count].iter_mut().for_each(|d| *d += 1);
-    deviations
+/// A curve by which 1 MW responds with a W for each mHz past 2,000.
+fn watts_past_2000() -> Curve {
+    Curve(vec![(2_000, 0), (3_000, 1)])
 }
 
-/// Sums of kW at multiples of each rate's divisor and beside them, which show a reading left out or taken twice; sums that 31
-/// to 35 bits just hold, and just do not; the greatest.
+/// Sums of W at multiples of each rate's divisor and one W beside them, which show a reading left out or taken twice and a
+/// service's energy rounded by itself; sums that 31 to 45 bits just hold, and just do not; the greatest.
 fn sums(rate: Rate) -> Script {
     let mut script = Script::new(EDGES);
-    script.curves(&[proportional(), proportional(), proportional()]);
-    let mut sums = vec![(1_000, 1_000 * rate.period())];
+    script.curves(&[watts(), kilowatts(), watts_past_2000()]);
+    let (count, none) = (rate.period(), Direction::default());
+    // What 1 MW can call for by kW in a period.
+    let per_mw = 1_000_000 * count;
+    let mut sums = Vec::new();
     for divisor in RATES.map(|rate| rate.divisor() as usize) {
-        for multiple in [1, 2, 9, 10, 11, 499].map(|times| times * divisor) {
-            sums.extend([multiple - 1, multiple, multiple + 1].map(|sum| (1, sum)));
+        for multiple in [1, 2, 9, 10, 11, 499, 500, 499_499].map(|times| times * divisor) {
+            sums.extend([multiple - 1, multiple, multiple + 1]);
         }
     }
-    for held in (31..=35).map(|bits| (1 << bits) / 1_000) {
-        sums.extend([(1_000, held), (1_000, held + 1)]);
-    }
-    sums.retain(|&(_, sum)| sum <= 1_000 * rate.period());
-    for (mw, sum) in sums {
-        let (none, some) = (Direction::default(), Direction([0, mw, 0]));
-        let deviations = deviations(rate.period(), sum);
-        let below: Vec<u16> = deviations.iter().map(|d| 50_000 - d).collect();
-        script.read_all(&below);
-        script.energy(&some, &none);
-        let above: Vec<u16> = deviations.iter().map(|d| 50_000 + d).collect();
-        script.read_all(&above);
-        script.energy(&none, &some);
+    sums.extend((31..=45).flat_map(|bits| [(1 << bits) - 1, 1 << bits]));
+    sums.retain(|&sum| sum <= 999 * per_mw);
+    let mut cases: Vec<_> = sums
+        .into_iter()
+        .map(|sum| (sum.div_ceil(per_mw), 1, sum))
+        .collect();
+    cases.push((1_000, 0, 1_000 * per_mw));
+    for (mw, second, sum) in cases {
+        let some = Direction([0, mw as Int, second]);
+        let bound = sum.div_ceil(rate.divisor() as usize) as Int;
+        // What is left by whole kW for each MW comes from readings past 2,000 mHz, up to 1,000 W from each.
+        let (deviation, left) = (sum / (1_000 * mw), sum % (1_000 * mw));
+        let far = left.div_ceil(1_000);
+        for (side, low, high) in [(-1, &some, &none), (1, &none, &some)] {
+            read_evenly(&mut script, side, far, 2_000 * far + left);
+            read_evenly(&mut script, side, count - far, deviation - 1_000 * far);
+            let (_, low, high) = script.energy(low, high);
+            assert_eq!(low + high, bound);
+        }
     }
     script
 }
 
 /// No. 3: "the readings from the present one to the last, and no others." The readings before a place are 50,000 and call for
-/// nothing, so that the bounds are those of the sum from the place on. Each of the others calls for more kW than the divisor, so
+/// nothing, so that the bounds are those of the sum from the place on. Each of the others calls for more W than the divisor, so
 /// that one reading left out or taken twice changes a bound.
 fn sums_from_places(random: &mut Random, rate: Rate) -> Script {
     let mut script = Script::new(EDGES);
-    script.curves(&[proportional(), proportional(), proportional()]);
-    let least = rate.divisor() / 1_000 + 1;
+    script.curves(&[kilowatts(), kilowatts(), kilowatts()]);
+    let least = rate.divisor() / 1_000_000 + 1;
     let mut places = ends(rate.period()).to_vec();
     places.push(rate.period());
     for first in 0..places.len() {
         for swapped in 0..2 {
             script.read(50_000, places[first]);
             for (n, run) in places[first..].windows(2).enumerate() {
-                let deviation = random.between(least, 1_000) as u16;
-                let sides = [50_000 - deviation, 50_000 + deviation];
-                script.read(sides[(n + swapped) % 2], run[1] - run[0]);
+                let side = [-1, 1][(n + swapped) % 2];
+                let deviation = random.between(least, 1_000);
+                script.read(beside(side, deviation), run[1] - run[0]);
             }
             script.energy(&Direction([1_000, 0, 0]), &Direction([0, 0, 1_000]));
         }
@@ -426,14 +628,15 @@ fn sums_from_places(random: &mut Random, rate: Rate) -> Script {
     script
 }
 
-/// Readings that differ within each ten; the bound changes where a ten's mean is first rounded, up or down.
+/// Readings that differ within each ten, by 1 MW and a W for each mHz. With 2,000 W on the average the sum is the divisor; the
+/// bound changes where a ten's mean is first rounded, up or down.
 fn uneven_tens(rate: Rate) -> Script {
     let mut script = Script::new(EDGES);
-    script.curves(&[proportional(), proportional(), proportional()]);
-    for sums in [[135, 145], [137, 147]] {
-        let tens = (0..rate.period() / 10).flat_map(|ten| deviations(10, sums[ten % 2]));
-        let readings: Vec<u16> = tens.map(|d| 50_000 - d).collect();
-        script.read_all(&readings);
+    script.curves(&[watts(), watts(), watts()]);
+    for sums in [[19_995, 20_005], [20_005, 20_005]] {
+        for ten in 0..rate.period() / 10 {
+            read_evenly(&mut script, -1, 10, sums[ten % 2]);
+        }
         script.energy(&Direction([1, 0, 0]), &Direction::default());
     }
     script
@@ -460,7 +663,11 @@ pub fn energy(random: &mut Random) -> Script {
         let readings = if random.once_in(8) {
             bad_readings(random, rate)
         } else {
-            good_readings(random, Weather::Any, &curves, rate, STEPS)
+            let mut readings = good_readings(random, Weather::Any, &curves, rate, STEPS);
+            if random.once_in(2) {
+                bring_to_multiples(random, [&low, &high], &curves, rate, &mut readings);
+            }
+            readings
         };
         script.read_all(&readings);
         for _ in 0..3 {
@@ -552,15 +759,15 @@ fn any_response(random: &mut Random, script: &mut Script) {
     script.respond(random.between(0, most), random.between(0, last));
 }
 
-/// Responses at each deviation, and a period's energy there; responses that pass 32 bits; curves beside the stock one; the stock
+/// Responses at each deviation, and a period's energy there; responses of any quantity; curves beside the stock one; the stock
 /// one at some of the services.
 pub fn table_edges(random: &mut Random, runs: &mut Runs, tally: &mut Tally) {
     for first in (0..=3_000).step_by(100) {
         let deviations = first..=(first + 99).min(3_000);
-        runs.add(responses(random, deviations.clone()), tally);
+        runs.add(table_responses(random, deviations.clone()), tally);
         for rate in RATES {
             for fourth in [None, Some(501), Some(800), Some(3_000)] {
-                runs.add(each_kw(random, rate, fourth, deviations.clone()), tally);
+                runs.add(each_watt(random, rate, fourth, deviations.clone()), tally);
             }
         }
     }
@@ -573,7 +780,7 @@ pub fn table_edges(random: &mut Random, runs: &mut Runs, tally: &mut Tally) {
     }
 }
 
-fn responses(random: &mut Random, deviations: RangeInclusive<Int>) -> Script {
+fn table_responses(random: &mut Random, deviations: RangeInclusive<Int>) -> Script {
     let mut script = Script::new(TABLE);
     for deviation in deviations {
         for mw in QUANTITIES {
@@ -586,15 +793,28 @@ fn responses(random: &mut Random, deviations: RangeInclusive<Int>) -> Script {
     script
 }
 
-/// Quantities by which MW times the entry passes a power of two; the greatest; others.
+/// Quantities by which MW times the entry, or 1,000 times that, passes a power of two; such by which it leaves each remainder
+/// that it can by 11,100, beside any multiple of that; the greatest; others.
 fn wide_responses(random: &mut Random) -> Script {
     let mut script = Script::new(TABLE);
     for (deviation, entry) in (0..).zip(model::table()).filter(|(_, entry)| *entry > 0) {
-        for bits in [31, 32, 53] {
-            let passed = (1 << bits) / entry;
+        for (factor, bits) in [
+            (1, 31),
+            (1, 32),
+            (1, 53),
+            (1_000, 32),
+            (1_000, 63),
+            (1_000, 64),
+        ] {
+            let passed = (1 << bits) / (factor * entry);
             for mw in [passed, passed + 1] {
                 script.respond(mw.min(MAX), deviation);
             }
+        }
+        let remainders = 11_100 / divisor(11_100, entry);
+        let first = random.within(0, MAX - remainders);
+        for mw in first..=first + remainders {
+            script.respond(mw, deviation);
         }
     }
     for mw in [0, 1, 0x7fff_ffff, 0x8000_0000, MAX - 1, MAX] {
@@ -610,10 +830,11 @@ fn wide_responses(random: &mut Random) -> Script {
     script
 }
 
-/// One service's energy at each deviation, below 50,000 and above, with the stock curve or with a fourth point on its flat part.
-/// Readings that are all alike make half of the response R in kWh, rounded up, which hides every second kW. With 1 kW more of a
-/// second service it is half of R + 1, so that one of the two changes where R is a kW more or less.
-fn each_kw(
+/// One service's response at each deviation, below 50,000 and above, with the stock curve or with a fourth point on its flat
+/// part. One reading has the deviation. The others are past 500 mHz, where each MW responds with 1,000,000 W, and 1 MW of a
+/// second service, with a W for each mHz, brings the sum to a multiple of the divisor and to one W past it: a W more or less
+/// changes one of the two bounds.
+fn each_watt(
     random: &mut Random,
     rate: Rate,
     fourth: Option<Int>,
@@ -622,21 +843,26 @@ fn each_kw(
     let mut script = Script::new(TABLE);
     let mut curve = containment();
     curve.0.extend(fourth.map(|deviation| (deviation, 1_000)));
+    let others = rate.period() - 1;
     for deviation in deviations {
         let service = random.below(3);
-        let mut curves = [(); 3].map(|()| Curve(vec![(0, 0), (1, 1)]));
+        let mut curves = [(); 3].map(|()| watts());
         curves[service] = curve.clone();
         script.curves(&curves);
         let mw = [(); 2].map(|()| random.within(1, 999));
-        for second in 0..=1 {
-            let [low, high] = mw.map(|mw| {
-                let mut direction = Direction::default();
-                direction.0[service] = mw;
-                direction.0[(service + 1) % 3] = second;
-                direction
-            });
-            for reading in [50_000 - deviation, 50_000 + deviation] {
-                script.read(reading as u16, rate.period());
+        let [low, high] = mw.map(|mw| {
+            let mut direction = Direction::default();
+            direction.0[service] = mw;
+            direction.0[(service + 1) % 3] = 1;
+            direction
+        });
+        for past in 0..=1 {
+            for (mw, side) in mw.into_iter().zip([-1, 1]) {
+                let one = model::response(mw, &curve, deviation) + deviation;
+                let least = (1_000_000 * mw + 501) * others as Int;
+                let more = (past - one - least).rem_euclid(rate.divisor());
+                script.read(beside(side, deviation), 1);
+                read_evenly(&mut script, side, others, 501 * others + more as usize);
                 script.energy_and_table(&low, &high);
             }
         }
