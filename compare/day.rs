@@ -18,7 +18,7 @@ pub fn compare(runs: &mut Runs, tally: &mut Tally) {
     }
     let rows = rows(&script);
     runs.alone(script, tally);
-    hold_readme(&rows);
+    hold(TOPIC, "README.md", &rows);
 }
 
 pub fn read(path: &str) -> String {
@@ -74,17 +74,16 @@ fn rows(script: &Script) -> Vec<String> {
     rows
 }
 
-/// The paragraph of README.md that has the first row has all of them and nothing else.
-fn hold_readme(rows: &[String]) {
-    let readme = read("README.md");
-    let mut paragraphs = readme.split("\n\n").map(str::lines);
+/// The paragraph of a page that has the first row has all of them and nothing else.
+pub fn hold(topic: &str, page: &str, rows: &[String]) {
+    let text = read(page);
+    let mut paragraphs = text.split("\n\n").map(str::lines);
     let block = paragraphs.find(|lines| lines.clone().any(|line| line == rows[0]));
     let mut found = block.unwrap_or("".lines());
     for row in rows.iter().map(String::as_str).chain(["(no line)"]) {
         let line = found.next().unwrap_or("(no line)");
         if line != row {
-            let input = "README.md, A day with the ledger\n";
-            stop(TOPIC, input.as_bytes(), row, line);
+            stop(topic, format!("{page}\n").as_bytes(), row, line);
         }
     }
 }

@@ -2,10 +2,11 @@
 //! as a host calls them, the table that the program containment_table prints, and the rest through the program ledger_trace.
 //!
 //! `compare SEED ROUNDS LEDGER_TRACE CONTAINMENT_TABLE`, from the repository's root. It stops at the first difference with exit
-//! status 1.
+//! status 1. `compare gain LEDGER_TRACE` prints the table of docs/WATTS.md.
 
 mod containment;
 mod day;
+mod gain;
 mod host;
 mod host_cases;
 mod instruction_cases;
@@ -24,20 +25,39 @@ use trace::Runs;
 
 fn main() {
     let arguments: Vec<String> = std::env::args().skip(1).collect();
-    let number = |i: usize| arguments.get(i).and_then(|a| a.parse::<u64>().ok());
-    let (Some(seed), Some(rounds), [_, _, ledger_trace, containment_table]) =
-        (number(0), number(1), &arguments[..])
-    else {
-        eprintln!("compare SEED ROUNDS LEDGER_TRACE CONTAINMENT_TABLE");
-        std::process::exit(2);
-    };
+    let words: Vec<&str> = arguments.iter().map(String::as_str).collect();
+    match words[..] {
+        ["gain", ledger_trace] => {
+            let runs = &mut Runs::new(ledger_trace.to_string());
+            for row in gain::table(runs, &mut Tally::default()) {
+                println!("{row}");
+            }
+        }
+        [seed, rounds, ledger_trace, containment_table] => {
+            let (Ok(seed), Ok(rounds)) = (seed.parse(), rounds.parse()) else {
+                usage();
+            };
+            compare(seed, rounds, ledger_trace, containment_table);
+        }
+        _ => usage(),
+    }
+}
+
+fn usage() -> ! {
+    eprintln!("compare SEED ROUNDS LEDGER_TRACE CONTAINMENT_TABLE");
+    eprintln!("compare gain LEDGER_TRACE");
+    std::process::exit(2);
+}
+
+fn compare(seed: u64, rounds: u64, ledger_trace: &str, containment_table: &str) {
     let random = &mut Random::new(seed);
     let tally = &mut Tally::default();
-    let runs = &mut Runs::new(ledger_trace.clone());
+    let runs = &mut Runs::new(ledger_trace.to_string());
 
     papers::compare(runs, tally);
     containment::compare(containment_table, tally);
     day::compare(runs, tally);
+    gain::compare(runs, tally);
     host_cases::damaged_reports(tally);
     instruction_cases::edges(tally);
     instruction_cases::damaged(tally);

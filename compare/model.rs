@@ -33,6 +33,11 @@ impl Fraction {
         Fraction::new(self.over * n, self.under)
     }
 
+    /// Divided by a fraction above 0.
+    pub fn by(self, other: Fraction) -> Fraction {
+        Fraction::new(self.over * other.under, self.under * other.over)
+    }
+
     pub fn rounded_down(self) -> Int {
         self.over.div_euclid(self.under)
     }
