@@ -15,16 +15,15 @@ use Rattle.common.specs.Lists.{everyFrom}
 use Rattle.common.proofs.Lists.{sum-same, entry-holds, every-entry}
 use Rattle.common.proofs.Tests.{both-true, by-test}
 use Rattle.terms.specs.declared.Quantities.{Quantities}
-use Rattle.energy.specs.Curve.{containmentCurve, shareFrom, shareAt, responseTo, response}
-use Rattle.energy.specs.Containment.{containmentShare, entryRule, tableRule, entryFor, responseByTable, isContainment, serviceByTable, responsesByTable, boundByTable, TableServes}
-use Rattle.energy.specs.Period.{lowDeviation, highDeviation, responses, bound}
+use Rattle.energy.specs.Curve.{containmentCurve, shareFrom, responseTo, response}
+use Rattle.energy.specs.Containment.{containmentShare, entryRule, tableRule, entryFor, responseByTable, isContainment, serviceByTable, boundByTable, TableServes}
+use Rattle.energy.specs.Period.{lowDeviation, highDeviation, responsesBy, responses, bound}
 use Rattle.energy.specs.Rate.{divisor}
 use Rattle.energy.specs.Table.{Added}
-use Rattle.energy.specs.declared.curve.Point.{Point}
 use Rattle.energy.specs.declared.curve.Curve.{Curve}
 use Rattle.energy.specs.declared.curve.Curves.{Curves}
 use Rattle.energy.proofs.Rounding.{up-exact, up-same}
-use Rattle.energy.proofs.StockCurve.{positive, flat, Divides, divides, stock-points}
+use Rattle.energy.proofs.StockCurve.{positive, flat, Divides, divides, stock-response}
 use Rattle.energy.proofs.Tables.{either, zeros-at}
 
 -- an entry is the share times 11,100
@@ -56,25 +55,24 @@ module _ (table : List ℕ) (keeps : tableRule table ≡ true) where
   pub same-response : (mw d : ℕ) → responseByTable table mw d ≡ response mw containmentCurve d
   unfolding response
   same-response mw d =
-      up-same mw (entryFor table d) 11100 (containmentShare d .numerator) (containmentShare d .denominator) (omega arith) (positive d) (entry-for d)
+      up-same (1000 * mw) (entryFor table d) 11100 (containmentShare d .numerator) (containmentShare d .denominator) (omega arith) (positive d) (entry-for d)
 
   same-service : (mw : ℕ) (c : Curve) (d : ℕ) → serviceByTable table mw c d ≡ response mw c d
-  unfolding response
   same-service mw c d =
       by-test (λ (n : ℕ). n ≡ response mw c d) (isContainment c) (responseByTable table mw d) (response mw c d)
-      (λ t. same-response mw d ∙ ap (λ (ps : List Point). responseTo mw (shareAt ps d)) (sym (stock-points c t))) (λ t. refl)
+      (λ t. same-response mw d ∙ stock-response c t mw d) (λ t. refl)
 
   same-bound : (deviation : ℕ → ℕ) (q : Quantities) (cs : Curves) (rs : List ℕ) → boundByTable table deviation q cs rs ≡ bound deviation q cs rs
   unfolding bound
   same-bound deviation q cs rs =
-      let each : (r : ℕ) → responsesByTable table q cs (deviation r) ≡ responses q cs (deviation r) =
+      let each : (r : ℕ) → responsesBy (serviceByTable table) q cs (deviation r) ≡ responses q cs (deviation r) =
       λ r. rw (
         same-service (q .dc) (cs .dc) (deviation r),
         same-service (q .dm) (cs .dm) (deviation r),
         same-service (q .dr) (cs .dr) (deviation r),
       ) in
       ap (λ (s : ℕ). roundedUp s (divisor (length rs)))
-      (sum-same (λ (r : ℕ). responsesByTable table q cs (deviation r)) (λ (r : ℕ). responses q cs (deviation r)) each rs)
+      (sum-same (λ (r : ℕ). responsesBy (serviceByTable table) q cs (deviation r)) (λ (r : ℕ). responses q cs (deviation r)) each rs)
 
 -- paper 02, No. 4
 pub table-serves : TableServes
@@ -96,7 +94,7 @@ table-serves table keeps =
 
 -- ---- the table by interpolation
 
--- what 11,100 MW respond is an entry, since nothing has to be rounded
+-- 11,100 times the share is an entry, since nothing has to be rounded
 exact : (d : ℕ) → IsEntry d (responseTo 11100 (containmentShare d))
 exact d = by (divides d)
   where

@@ -4,6 +4,7 @@ pub mod ByTable
 pub mod Entries
 pub mod Filling
 pub mod FixedPoint
+pub mod Kilowatts
 pub mod Largest
 pub mod Laws
 pub mod Parts

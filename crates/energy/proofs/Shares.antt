@@ -86,31 +86,31 @@ first-least p (q ∷ ps) (suc i) e h =
     let r = rises-next p q ps e in
     omega (arith, first-least q ps i (rule-next p q ps e) (omega arith))
 
-between-point : (mw : ℕ) (p q : Point) → p .deviation < q .deviation → responseTo mw (between p q (p .deviation)) ≡ mw * p .share
-between-point mw p q h =
+between-point : (quantity : ℕ) (p q : Point) → p .deviation < q .deviation → responseTo quantity (between p q (p .deviation)) ≡ quantity * p .share
+between-point quantity p q h =
     let w = q .deviation - p .deviation in
-    rw (sub-self (p .deviation), mul-zero (q .share - p .share), add-zero (p .share * w), ← mul-assoc mw (p .share) w) (up-exact (mw * p .share) w (omega arith))
+    rw (sub-self (p .deviation), mul-zero (q .share - p .share), add-zero (p .share * w), ← mul-assoc quantity (p .share) w) (up-exact (quantity * p .share) w (omega arith))
 
-from-point : (mw : ℕ) (p : Point) (ps : List Point) (i : ℕ) → chain inRange rises p ps ≡ true → i < length (p ∷ ps) →
+from-point : (quantity : ℕ) (p : Point) (ps : List Point) (i : ℕ) → chain inRange rises p ps ≡ true → i < length (p ∷ ps) →
     let r = getD (p ∷ ps) i blank in
-    responseTo mw (shareFrom p ps (r .deviation)) ≡ mw * r .share
+    responseTo quantity (shareFrom p ps (r .deviation)) ≡ quantity * r .share
 unfolding shareFrom
-from-point mw p [] zero e h = up-one (mw * p .share)
-from-point mw p [] (suc i) e h = absurd (omega arith)
-from-point mw p (q ∷ ps) zero e h =
+from-point quantity p [] zero e h = up-one (quantity * p .share)
+from-point quantity p [] (suc i) e h = absurd (omega arith)
+from-point quantity p (q ∷ ps) zero e h =
     let r = rises-next p q ps e in
-    rw (lt-ltb (p .deviation) (q .deviation) (r .farther)) (between-point mw p q (r .farther))
-from-point mw p (q ∷ ps) (suc i) e h =
+    rw (lt-ltb (p .deviation) (q .deviation) (r .farther)) (between-point quantity p q (r .farther))
+from-point quantity p (q ∷ ps) (suc i) e h =
     let f = rule-next p q ps e in
-    rw (le-ltb (getD (q ∷ ps) i blank .deviation) (q .deviation) (first-least q ps i f (omega arith))) (from-point mw q ps i f (omega arith))
+    rw (le-ltb (getD (q ∷ ps) i blank .deviation) (q .deviation) (first-least q ps i f (omega arith))) (from-point quantity q ps i f (omega arith))
 
-pub at-point : (mw : ℕ) (ps : List Point) (i : ℕ) → pointsRule ps ≡ true → i < length ps →
+pub at-point : (quantity : ℕ) (ps : List Point) (i : ℕ) → pointsRule ps ≡ true → i < length ps →
     let r = getD ps i blank in
-    responseTo mw (shareAt ps (r .deviation)) ≡ mw * r .share
-at-point mw [] i e h = absurd (false≢true e)
-at-point mw (p ∷ ps) i e h =
+    responseTo quantity (shareAt ps (r .deviation)) ≡ quantity * r .share
+at-point quantity [] i e h = absurd (false≢true e)
+at-point quantity (p ∷ ps) i e h =
     let f = both-true (eqb (p .share) 0) (chain inRange rises p ps) e .1 in
-    rw (le-ltb (getD (p ∷ ps) i blank .deviation) (p .deviation) (first-least p ps i f h)) (from-point mw p ps i f h)
+    rw (le-ltb (getD (p ∷ ps) i blank .deviation) (p .deviation) (first-least p ps i f h)) (from-point quantity p ps i f h)
 
 -- ---- responses
 
@@ -124,10 +124,11 @@ pub between-le : (factor : ℕ) (p q : Point) (d : ℕ) → Rises p q → InRang
 between-le factor p q d r i h l = response-to-le factor (share-between p q d r i h l)
 
 module _ (mw : ℕ) (c : Curve) (rule : curveRule c ≡ true) where
-  pub response-le : (d : ℕ) → response mw c d ≤ 1000 * mw
+  -- at most 1,000,000 W for each MW
+  pub response-le : (d : ℕ) → response mw c d ≤ 1000000 * mw
   unfolding response
-  response-le d = response-to-le mw (share-at (pointsOf c) d (ruled c rule))
+  response-le d = omega (arith, response-to-le (1000 * mw) (share-at (pointsOf c) d (ruled c rule)))
 
   pub response-zero : response mw c 0 ≡ 0
   unfolding response
-  response-zero = rw (at-zero (pointsOf c) (ruled c rule), mul-zero mw) (up-zero (shareAt (pointsOf c) 0 .denominator))
+  response-zero = rw (at-zero (pointsOf c) (ruled c rule), mul-zero (1000 * mw)) (up-zero (shareAt (pointsOf c) 0 .denominator))

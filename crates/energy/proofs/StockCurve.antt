@@ -1,5 +1,5 @@
 -- The stock containment curve: its share, and which curves are it. Assumes nothing.
-use mathlib.Core.Path.{_≡_, refl}
+use mathlib.Core.Path.{_≡_, refl, sym, ap}
 use mathlib.Core.Bool.{true, _&&_, and-assoc, and-false, and-true, false≢true}
 use mathlib.Core.List.{List, [], _∷_}
 use Prim.Native.Nat.{ℕ, zero, suc, _*_, _≤_, _<_}
@@ -10,7 +10,7 @@ use lib.ListN.{length, getD, take}
 use Rattle.common.specs.Fraction.{Fraction, whole}
 use Rattle.common.specs.Lists.{chain}
 use Rattle.common.proofs.Tests.{both-true, by-test}
-use Rattle.energy.specs.Curve.{point, blank, pointsOf, containmentCurve, curveRule, between, shareFrom}
+use Rattle.energy.specs.Curve.{point, blank, pointsOf, containmentCurve, curveRule, between, shareFrom, shareAt, responseTo, response}
 use Rattle.energy.specs.Containment.{containmentShare, samePoint, samePoints, isContainment}
 use Rattle.energy.specs.declared.curve.Point.{Point}
 use Rattle.energy.specs.declared.curve.Curve.{Curve}
@@ -83,6 +83,8 @@ pub by-points : (c : Curve) → length (c .points) ≡ 5 → {stock : Curve} →
     eqb (c .count) 3 && samePoint (at c 0) (at stock 0) && samePoint (at c 1) (at stock 1) && samePoint (at c 2) (at stock 2) ≡ isContainment c
 by-points c five is = rw is (three-points (c .count) (c .points) (omega arith) (point 15 0) (point 200 50) (point 500 1000))
 
--- the same points
-pub stock-points : (c : Curve) → isContainment c ≡ true → pointsOf c ≡ pointsOf containmentCurve
-stock-points c e = points-same (pointsOf c) (pointsOf containmentCurve) e
+-- the same points, and so the same responses
+pub stock-response : (c : Curve) → isContainment c ≡ true → (mw d : ℕ) → response mw containmentCurve d ≡ response mw c d
+unfolding response
+stock-response c e mw d =
+    ap (λ (ps : List Point). responseTo (1000 * mw) (shareAt ps d)) (sym (points-same (pointsOf c) (pointsOf containmentCurve) e))

@@ -83,10 +83,10 @@ module _ {most : Deviations} {rs : List ℕ} (h : WithinRange most rs) where
 module _ (low high : Quantities) (cs : Curves) (rs : List ℕ) where
   -- what both directions of at most 1,000 MW respond
   pub sums-most : BeforeReadings low high cs → (sums : Sums) → sums ≡ responseSums low high cs rs →
-      (sums .low ≤ 1000000 * length rs) × (sums .high ≤ 1000000 * length rs)
+      (sums .low ≤ 1000000000 * length rs) × (sums .high ≤ 1000000000 * length rs)
   sums-most b sums same =
-      let low-most : 1000 * Q low ≤ 1000000 = omega (arith, b .low-most) in
-      let high-most : 1000 * Q high ≤ 1000000 = omega (arith, b .high-most) in
+      let low-most : 1000000 * Q low ≤ 1000000000 = omega (arith, b .low-most) in
+      let high-most : 1000000 * Q high ≤ 1000000000 = omega (arith, b .high-most) in
       rw same (
         omega (arith, response-sum-le low cs (b .curves) lowDeviation rs, mul-le-mul-right (length rs) low-most),
         omega (arith, response-sum-le high cs (b .curves) highDeviation rs, mul-le-mul-right (length rs) high-most),

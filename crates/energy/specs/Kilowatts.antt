@@ -10,12 +10,13 @@ use Rattle.energy.specs.Period.{responseSumBy, bound}
 use Rattle.energy.specs.declared.curve.Curve.{Curve}
 use Rattle.energy.specs.declared.curve.Curves.{Curves}
 
--- 01: a service's response is its MW times the share, in kW, rounded up after the one division; the sum over readings and services
--- is divided by 7,200, or 72,000 at twenty readings a second, rounded up once
+-- 01: a service's response is its MW times the share, in kW, rounded up after the one division
+abbrev pub kilowatts : ℕ → Curve → ℕ → ℕ
+kilowatts mw c d = responseTo mw (shareAt (pointsOf c) d)
+
+-- the sum over readings and services is divided by 7,200, or 72,000 at twenty readings a second, rounded up once
 unfoldable pub boundByKilowatts : (ℕ → ℕ) → Quantities → Curves → List ℕ → ℕ
-boundByKilowatts deviation q cs rs =
-    let kilowatts : ℕ → Curve → ℕ → ℕ = λ mw c d. responseTo mw (shareAt (pointsOf c) d) in
-    roundedUp (responseSumBy kilowatts deviation q cs rs) (2 * length rs)
+boundByKilowatts deviation q cs rs = roundedUp (responseSumBy kilowatts deviation q cs rs) (2 * length rs)
 
 pub record Compared (deviation : ℕ → ℕ) (q : Quantities) (cs : Curves) (rs : List ℕ) : Type 0 where
   -- a bound falls or stays

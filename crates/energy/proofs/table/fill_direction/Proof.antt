@@ -4,7 +4,6 @@ use Prim.Native.Nat.{_+_, _*_}
 use native.Mathlib.Omega.{arith}
 use borrow.Author.Needs.{needs}
 use lib.ListN.{length}
-use Rattle.energy.specs.Curve.{response}
 use Rattle.energy.specs.Table.{Room}
 use Rattle.energy.proofs.Responses.{rules}
 use Rattle.energy.proofs.Shares.{response-le}
@@ -21,20 +20,18 @@ first g = g .before .before .before .before
 -- the room that is left after one service, and after two
 room : (g : tie.After-fill-service) →
     let q = start g .args .q in
-    Room (1000 * q .dm + 1000 * q .dr) (g .fill-service .last .1 .1 .1 .0)
-unfolding response
+    Room (1000000 * q .dm + 1000000 * q .dr) (g .fill-service .last .1 .1 .1 .0)
 room g =
     let s = start g in
     let q = s .args .q in
-    room-left (g .fill-service .ensures) (1000 * q .dm + 1000 * q .dr) (1000 * q .dc)
+    room-left (g .fill-service .ensures) (1000000 * q .dm + 1000000 * q .dr) (1000000 * q .dc)
     (response-le (q .dc) (s .args .curves .dc) (rules (s .args .curves) (s .pre .rules) .dc)) (λ d. omega (arith, s .pre .room d))
 
-room2 : (g : tie.After-fill-service2) → Room (1000 * start (first g) .args .q .dr) (g .fill-service2 .last .1 .1 .1 .0)
-unfolding response
+room2 : (g : tie.After-fill-service2) → Room (1000000 * start (first g) .args .q .dr) (g .fill-service2 .last .1 .1 .1 .0)
 room2 g =
     let s = start (first g) in
     let q = s .args .q in
-    room-left (g .fill-service2 .ensures) (1000 * q .dr) (1000 * q .dm)
+    room-left (g .fill-service2 .ensures) (1000000 * q .dr) (1000000 * q .dm)
     (response-le (q .dm) (s .args .curves .dm) (rules (s .args .curves) (s .pre .rules) .dm)) (room (first g))
 
 long : (g : tie.After-fill-service) → length (g .fill-service .last .1 .1 .1 .0) ≡ length (start g .args .table .now)
@@ -75,14 +72,13 @@ fill-service-requires-3 c κs =
       factor-most = omega (arith, s .pre .quantity-most);
       rule = rules (s .args .curves) (s .pre .rules) .dr;
       there = omega (arith, s .pre .there, long2 g);
-      room = room2 g;
+      room = λ d. omega (arith, room2 g d);
     }
 
 same-length : tie.Need-same-length
 same-length c = search needs
 
 returns : tie.Need-returns
-unfolding response
 returns c =
     let g = c .before .before in
     let h = g .before .before .before .before in
