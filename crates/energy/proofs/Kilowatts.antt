@@ -1,5 +1,5 @@
 -- Paper 02, No. 5: bounds by watts beside 01's bounds by kilowatts, `bounds-fall`. Assumes nothing.
-use mathlib.Core.List.{List, [], _∷_, map}
+use mathlib.Core.List.{List, [], _∷_}
 use Prim.Native.Nat.{ℕ, zero, suc, _+_, _*_, _≤_, _<_}
 use native.Mathlib.Nat.{lt-of-mul-lt-mul-left, mul-assoc}
 use native.Mathlib.Omega.{arith}

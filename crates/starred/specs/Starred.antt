@@ -93,9 +93,10 @@ starred =
       printed = nat (100000 ∷ 20000 ∷ []) ∷ nat (10000 ∷ 2000 ∷ []) ∷ [];
       given = volumes (regulation 100) ∷ volumes (containment 40) ∷ [];
     }
-    -- Regulation, 100 MW: 49,985 gives 0 kW; 49,984 gives 541; 49,800 gives 100,000.
+    -- Regulation, 100 MW: 49,985 gives 0 W; 49,984 gives 540,541; 49,800 gives 100,000,000. By 02, No. 5, in place of 01's
+    -- 0 kW, 541 and 100,000.
     ∷ record {
-      printed = nat (0 ∷ 541 ∷ 100000 ∷ []) ∷ [];
+      printed = nat (0 ∷ 540541 ∷ 100000000 ∷ []) ∷ [];
       given = nat (map (λ (r : ℕ). response 100 regulationCurve (lowDeviation r)) (49985 ∷ 49984 ∷ 49800 ∷ [])) ∷ [];
     }
     -- the low table
