@@ -1,4 +1,4 @@
--- The starred examples of paper 01, "Checked examples", as one list: what the paper prints, and what the definitions give.
+-- The starred examples of paper 01, "Checked examples", as one list: what the papers print, and what the definitions give.
 -- `starred-hold` computes the whole list. Assumes nothing.
 use mathlib.Core.Path.{_≡_, refl}
 use mathlib.Core.Bool.{Bool, cond}
