@@ -3,7 +3,8 @@
 -- In words: open a record with terms, curves, size and first state of which no cause of opening holds. Make any calls on it,
 -- one after the other, each on the record that the last one returned or left. Then read off the list which closings were carried
 -- out: their readings give the bounds, the bounds give every start, and their purchases, deliveries and takings give the state.
--- Each closing's readings are at two a second or at twenty, and one list may mix both (paper 02, No. 1).
+-- Each closing's readings are at two a second or at twenty, and one list may mix both (paper 02, No. 1); the bounds are those by watts
+-- (No. 5).
 -- The unit passes both directions at every start: after the first k closings carried out, for every k from none to all, at
 -- start(k+1). Every call gives 10 exactly when eight closings were carried out. Before that the proposal is accepted, lies within
 -- the recovery volumes and is nearest to 0, and a purchase is refused exactly when it goes past empty or full itself or some
