@@ -12,7 +12,7 @@ use crate::curve::containment_curve;
 use crate::table::fill_by_steps;
 
 // 1,000 times a quantity times an entry, divided by 11,100, rounded up. A u64 has no room for 1,000 times the product of any two
-// u32, so what the product leaves over by 11,100 is multiplied by itself.
+// u32, so the product's quotient and remainder by 11,100 are multiplied apart.
 pub(crate) fn response_by_entry(mw: u32, entry: u32) -> u64
     ensures { λ r. ⌜ r ≡ roundedUp (1000 * mw * entry) 11100 ⌝ }
 {

@@ -24,7 +24,7 @@ pub enum PeriodEnergy {
     Readings,
 }
 
-// The energy of a period, from the sum of what a direction responds to its readings, each time at most 1,000,000,000 W, and their count.
+// The energy of a period, from the sum of a direction's responses, at most 1,000,000,000 W to a reading, and the count of readings.
 fn period_kwh(sum: u64, count: usize) -> u32
     requires { ⌜ isPeriodCount count ≡ true × sum ≤ 1000000000 * count ⌝ }
     ensures { λ r. ⌜ r ≡ roundedUp sum (divisor count) ⌝ }
