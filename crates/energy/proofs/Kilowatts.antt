@@ -9,6 +9,7 @@ use Rattle.common.specs.Lists.{sum}
 use Rattle.terms.specs.declared.Quantities.{Quantities}
 use Rattle.energy.specs.Curve.{pointsOf, shareAt, response}
 use Rattle.energy.specs.Period.{responsesBy, responses, responseSumBy, responseSum, bound}
+use Rattle.energy.specs.Rate.{divisor}
 use Rattle.energy.specs.Kilowatts.{kilowatts, boundByKilowatts, BoundsFall}
 use Rattle.energy.specs.declared.curve.Curve.{Curve}
 use Rattle.energy.specs.declared.curve.Curves.{Curves}
@@ -65,17 +66,17 @@ sums deviation q cs (r ∷ rs) =
 
 -- ---- their energies over a period of n readings
 
-fall : (n : ℕ) {watts kw : ℕ} → Beside (3 * n) watts kw → roundedUp watts (2000 * n) ≤ roundedUp kw (2 * n)
+fall : (n : ℕ) {watts kw : ℕ} → Beside (3 * n) watts kw → roundedUp watts (divisor n) ≤ roundedUp kw (2 * n)
 fall zero {watts} s = rw (up-none watts) (omega arith)
 fall (suc m) {watts} {kw} s =
     let n = suc m in
-    up-le watts (2000 * n) (roundedUp kw (2 * n)) (omega arith) (omega (arith, s .no-more, up-ge kw (2 * n) (omega arith)))
+    up-le watts (divisor n) (roundedUp kw (2 * n)) (omega arith) (omega (arith, s .no-more, up-ge kw (2 * n) (omega arith)))
 
-by-two : (n : ℕ) {watts kw : ℕ} → Beside (3 * n) watts kw → roundedUp kw (2 * n) ≤ roundedUp watts (2000 * n) + 2
+by-two : (n : ℕ) {watts kw : ℕ} → Beside (3 * n) watts kw → roundedUp kw (2 * n) ≤ roundedUp watts (divisor n) + 2
 by-two zero {watts} {kw} s = rw (up-none kw) (omega arith)
 by-two (suc m) {watts} {kw} s =
     let n = suc m in
-    up-le kw (2 * n) (roundedUp watts (2000 * n) + 2) (omega arith) (omega (arith, s .near, up-ge watts (2000 * n) (omega arith)))
+    up-le kw (2 * n) (roundedUp watts (divisor n) + 2) (omega arith) (omega (arith, s .near, up-ge watts (divisor n) (omega arith)))
 
 -- paper 02, No. 5
 pub bounds-fall : BoundsFall

@@ -40,13 +40,13 @@ slice-aggregate-fill-by-entries c = search needs
 
 fill-by-entries-requires : tie.Need-fill-by-entries-requires
 fill-by-entries-requires c κs =
-    let near = c .before .before in
-    let t = near .before in
+    let m = c .before .before in
+    let t = m .before in
     let s = start t in
     record {
       rule = t .stored-table .ensures;
-      has = omega (arith, near .smaller .ensures);
-      there = omega (arith, near .smaller .ensures, s .pre .there);
+      has = omega (arith, m .smaller .ensures);
+      there = omega (arith, m .smaller .ensures, s .pre .there);
       room = λ d. omega (arith, s .pre .room d);
     }
 
