@@ -52,10 +52,14 @@ module _ (table : List ℕ) (keeps : tableRule table ≡ true) where
       (λ past. let m : min d 500 ≡ 500 = omega arith in rw (m, flat d (omega arith)) (entry 500 (omega arith)))
       (λ near. let m : min d 500 ≡ d = omega arith in rw m (entry d near))
 
+  -- any multiple of the share
+  pub same-multiple : (factor d : ℕ) → roundedUp (factor * entryFor table d) 11100 ≡ responseTo factor (containmentShare d)
+  same-multiple factor d =
+      up-same factor (entryFor table d) 11100 (containmentShare d .numerator) (containmentShare d .denominator) (omega arith) (positive d) (entry-for d)
+
   pub same-response : (mw d : ℕ) → responseByTable table mw d ≡ response mw containmentCurve d
   unfolding response
-  same-response mw d =
-      up-same (1000 * mw) (entryFor table d) 11100 (containmentShare d .numerator) (containmentShare d .denominator) (omega arith) (positive d) (entry-for d)
+  same-response mw d = same-multiple (1000 * mw) d
 
   same-service : (mw : ℕ) (c : Curve) (d : ℕ) → serviceByTable table mw c d ≡ response mw c d
   same-service mw c d =

@@ -7,36 +7,36 @@ use Prim.Native.Nat.{ℕ, _+_, _-_, _*_, _^_, _≤_, _<_, min}
 use native.Mathlib.Omega.{arith}
 use lib.ListN.{length, getD, set, length-set}
 use Rattle.common.specs.Fraction.{roundedUp}
-use Rattle.energy.specs.Curve.{containmentCurve, response}
-use Rattle.energy.specs.Containment.{tableRule}
+use Rattle.energy.specs.Curve.{containmentCurve, responseTo}
+use Rattle.energy.specs.Containment.{containmentShare, tableRule}
 use Rattle.energy.specs.Table.{Added, wholes, FillFits, ServiceFits, EntriesFit}
-use Rattle.energy.proofs.ByTable.{same-response}
+use Rattle.energy.proofs.ByTable.{same-multiple}
 use Rattle.energy.proofs.FixedPoint.{start-value}
 use Rattle.energy.proofs.Segments.{first}
-use Rattle.energy.proofs.Shares.{response-le}
+use Rattle.energy.proofs.Shares.{curve-le}
 use Rattle.energy.proofs.StockCurve.{rule}
 use Rattle.energy.proofs.Tables.{none-added, one-more, all-added, same-added, then-added}
 
-module _ (mw : ℕ) where
+module _ (factor : ℕ) where
   -- what is added to an entry
   abbrev pub added : ℕ → ℕ
-  added = response mw containmentCurve
+  added d = responseTo factor (containmentShare d)
 
-  pub added-le : (d : ℕ) → added d ≤ 1000000 * mw
-  added-le = response-le mw containmentCurve rule
+  pub added-le : (d : ℕ) → added d ≤ 1000 * factor
+  added-le = curve-le factor containmentCurve rule
 
   module _ (entries : List ℕ) where
     -- what the code finds by the entry at a place
     abbrev pub found : ℕ → ℕ
-    found place = roundedUp (1000 * mw * getD entries place 0) 11100
+    found place = roundedUp (factor * getD entries place 0) 11100
 
     module _ (keeps : tableRule entries ≡ true) where
       pub found-is : (d : ℕ) → d ≤ 500 → found d ≡ added d
-      found-is d h = let m : min d 500 ≡ d = omega arith in rw m at (same-response entries keeps mw d)
+      found-is d h = let m : min d 500 ≡ d = omega arith in rw m at (same-multiple entries keeps factor d)
 
       -- entry 500 serves for larger deviations
       last-serves : (d : ℕ) → 500 ≤ d → found 500 ≡ added d
-      last-serves d h = let m : min d 500 ≡ 500 = omega arith in rw m at (same-response entries keeps mw d)
+      last-serves d h = let m : min d 500 ≡ 500 = omega arith in rw m at (same-multiple entries keeps factor d)
 
     -- ---- the loop
 
@@ -50,7 +50,7 @@ module _ (mw : ℕ) where
       begin = record { long = refl; d-le = omega arith; so-far = none-added 0 (λ d l h. absurd (omega arith)) }
 
       module _ {table : List ℕ} {d : ℕ} (a : Adding table d) where
-        module _ (fits : EntriesFit mw entries end before) (h : d < end) where
+        module _ (fits : EntriesFit factor entries end before) (h : d < end) where
           pub within : d < length table
           within = omega (arith, a .long, fits .there)
 
@@ -80,7 +80,7 @@ module _ (mw : ℕ) where
       flat-at : (d : ℕ) → 501 ≤ d → wholes flat-parts 0 (d - 501) ≡ added d
       flat-at d h = start-value (2 ^ 32) (found 500) (d - 501) (omega arith) ∙ last-serves keeps d (omega arith)
 
-      pub fill-fits : ServiceFits (1000 * mw) containmentCurve end before → length mid ≡ length before → FillFits flat-parts 0 501 end mid
+      pub fill-fits : ServiceFits factor containmentCurve end before → length mid ≡ length before → FillFits flat-parts 0 501 end mid
       fill-fits s long =
           record {
             there = omega (arith, s .there);

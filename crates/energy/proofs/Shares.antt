@@ -123,11 +123,14 @@ response-to-le factor {f} s =
 pub between-le : (factor : ℕ) (p q : Point) (d : ℕ) → Rises p q → InRange q → p .deviation ≤ d → d < q .deviation → responseTo factor (between p q d) ≤ 1000 * factor
 between-le factor p q d r i h l = response-to-le factor (share-between p q d r i h l)
 
+pub curve-le : (factor : ℕ) (c : Curve) → curveRule c ≡ true → (d : ℕ) → responseTo factor (shareAt (pointsOf c) d) ≤ 1000 * factor
+curve-le factor c rule d = response-to-le factor (share-at (pointsOf c) d (ruled c rule))
+
 module _ (mw : ℕ) (c : Curve) (rule : curveRule c ≡ true) where
   -- at most 1,000,000 W for each MW
   pub response-le : (d : ℕ) → response mw c d ≤ 1000000 * mw
   unfolding response
-  response-le d = omega (arith, response-to-le (1000 * mw) (share-at (pointsOf c) d (ruled c rule)))
+  response-le d = omega (arith, curve-le (1000 * mw) c rule d)
 
   pub response-zero : response mw c 0 ≡ 0
   unfolding response

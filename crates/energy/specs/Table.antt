@@ -63,20 +63,21 @@ pub record SegmentFits (factor : ℕ) (p q : Point) (end : ℕ) (table : List �
   pub there : end ≤ length table
   pub room : (d : ℕ) → p .deviation ≤ d → getD table d 0 + 1000 * factor < 2 ^ 32
 
--- `fill_by_steps`, and for 1,000 times their MW `fill_by_table` and `fill_service`: a curve that keeps its rule, and room for
--- 1,000 per mille of such a factor
+-- `fill_by_steps` and `fill_by_table`, and for 1,000 times its MW `fill_service`: a curve that keeps its rule, and room for 1,000 per
+-- mille of such a factor
 pub record ServiceFits (factor : ℕ) (c : Curve) (end : ℕ) (table : List ℕ) : Type 0 where
   pub factor-most : factor ≤ 1000000
   pub rule : curveRule c ≡ true
   pub there : end ≤ length table
   pub room : Room (1000 * factor) table
 
--- `fill_by_entries`: a table of the stock containment curve that has the entries, and room for 1,000,000 W for each MW
-pub record EntriesFit (mw : ℕ) (entries : List ℕ) (end : ℕ) (table : List ℕ) : Type 0 where
+-- `fill_by_entries`: a table of the stock containment curve that has the entries, and room for the same
+pub record EntriesFit (factor : ℕ) (entries : List ℕ) (end : ℕ) (table : List ℕ) : Type 0 where
+  pub factor-most : factor ≤ 1000000
   pub rule : tableRule entries ≡ true
   pub has : end ≤ 501
   pub there : end ≤ length table
-  pub room : Room (1000000 * mw) table
+  pub room : Room (1000 * factor) table
 
 -- `fill_direction`: at most 1,000 MW, curves that keep their rule, and room for all of it
 pub record DirectionFits (q : Quantities) (cs : Curves) (most : ℕ) (table : List ℕ) : Type 0 where

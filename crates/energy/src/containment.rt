@@ -11,13 +11,20 @@ use crate::curve::Point;
 use crate::curve::containment_curve;
 use crate::table::fill_by_steps;
 
-// 1,000 times a quantity times an entry, divided by 11,100, rounded up. A u64 has no room for 1,000 times the product of any two
-// u32, so the product's quotient and remainder by 11,100 are multiplied apart.
-pub(crate) fn response_by_entry(mw: u32, entry: u32) -> u64
+// A factor times an entry, divided by 11,100, rounded up.
+pub(crate) fn response_by_entry(factor: u32, entry: u32) -> u64
+    ensures { λ r. ⌜ r ≡ roundedUp (factor * entry) 11100 ⌝ }
+{
+    (factor as u64 * entry as u64 + 11099) / 11100
+}
+
+// The same for 1,000 times a quantity. A u64 has no room for 1,000 times the product of any two u32, so the product's quotient by
+// 11,100 and what is left over are multiplied apart.
+fn watts_by_entry(mw: u32, entry: u32) -> u64
     ensures { λ r. ⌜ r ≡ roundedUp (1000 * mw * entry) 11100 ⌝ }
 {
     let product = mw as u64 * entry as u64;
-    product / 11100 * 1000 + (product % 11100 * 1000 + 11099) / 11100
+    product / 11100 * 1000 + response_by_entry(1000, (product % 11100) as u32)
 }
 
 // The response by a table that the caller lends, once for many responses: a constant is copied where it is used. Entry 500 serves
@@ -26,7 +33,7 @@ pub fn response_from(table: &[u32; 501], mw: u32, deviation: u16) -> u64
     ensures { λ r. ⌜ r ≡ responseByTable (now (table .entry)) mw deviation ⌝ }
 {
     let place = common::smaller(deviation as u64, 500) as usize;
-    response_by_entry(mw, table[place])
+    watts_by_entry(mw, table[place])
 }
 
 // What a service with the stock containment curve responds.

@@ -2,6 +2,7 @@
 ghost use mathlib.Core.Path.{_≡_};
 ghost use Prim.Native.Nat.{ℕ, _+_, _-_, _*_, _^_, min, max};
 ghost use Rattle.energy.specs.Curve.{pointsOf, containmentCurve, between, shareAt, responseTo, response};
+ghost use Rattle.energy.specs.Containment.{containmentShare};
 ghost use Rattle.energy.specs.Period.{highDeviation, responses, BeforeReadings};
 ghost use Rattle.energy.specs.Table.{largestDeviations, Added, wholes, FillFits, SegmentFits, ServiceFits, EntriesFit, DirectionFits, tableSums, Covered, responseSums, WithinRange};
 use crate::containment::is_containment;
@@ -117,30 +118,30 @@ pub(crate) fn fill_by_steps(factor: u32, curve: Curve, end: usize, table: &mut [
     );
 }
 
-// Adds what a service with the stock containment curve responds to each deviation below an end, by entries of its table.
-fn fill_by_entries(mw: u32, entries: &[u32], end: usize, table: &mut [u32])
-    requires { ⌜ EntriesFit mw (now entries) end (now table) ⌝ }
-    ensures { λ r. ⌜ Added 0 end (response mw containmentCurve) (now (table .entry)) (now (table .exit)) ⌝ }
+// Adds a factor times the stock containment curve's share at each deviation below an end, by entries of its table.
+fn fill_by_entries(factor: u32, entries: &[u32], end: usize, table: &mut [u32])
+    requires { ⌜ EntriesFit factor (now entries) end (now table) ⌝ }
+    ensures { λ r. ⌜ Added 0 end (λ (d : ℕ). responseTo factor (containmentShare d)) (now (table .entry)) (now (table .exit)) ⌝ }
 {
     let mut d: usize = 0;
     while d < end {
-        table[d] += response_by_entry(mw, entries[d]) as u32;
+        table[d] += response_by_entry(factor, entries[d]) as u32;
         d += 1;
     }
 }
 
 // The same to any end: entry 500 serves for larger deviations.
-fn fill_by_table(mw: u32, end: usize, table: &mut [u32])
-    requires { ⌜ ServiceFits (1000 * mw) containmentCurve end (now table) ⌝ }
-    ensures { λ r. ⌜ Added 0 end (response mw containmentCurve) (now (table .entry)) (now (table .exit)) ⌝ }
+fn fill_by_table(factor: u32, end: usize, table: &mut [u32])
+    requires { ⌜ ServiceFits factor containmentCurve end (now table) ⌝ }
+    ensures { λ r. ⌜ Added 0 end (λ (d : ℕ). responseTo factor (containmentShare d)) (now (table .entry)) (now (table .exit)) ⌝ }
 {
-    if mw == 0 {
+    if factor == 0 {
         return;
     }
     let entries = stored_table();
     let near = common::smaller(end as u64, 501) as usize;
-    fill_by_entries(mw, &entries, near, table);
-    let last = response_by_entry(mw, entries[500]) as u32;
+    fill_by_entries(factor, &entries, near, table);
+    let last = response_by_entry(factor, entries[500]) as u32;
     fill(parts_of(last), 0, 501, end, table);
 }
 
@@ -149,10 +150,11 @@ fn fill_service(mw: u32, curve: Curve, end: usize, table: &mut [u32], by_table: 
     requires { ⌜ ServiceFits (1000 * mw) curve end (now table) ⌝ }
     ensures { λ r. ⌜ Added 0 end (response mw curve) (now (table .entry)) (now (table .exit)) ⌝ }
 {
+    let factor = 1000 * mw;
     if by_table & is_containment(curve) {
-        fill_by_table(mw, end, table);
+        fill_by_table(factor, end, table);
     } else {
-        fill_by_steps(1000 * mw, curve, end, table);
+        fill_by_steps(factor, curve, end, table);
     }
 }
 

@@ -9,10 +9,10 @@ use Rattle.energy.proofs.table.fill_by_entries.Statement.{statement}
 use Rattle.energy.proofs.table.fill_by_entries.Tie as tie
 
 abbrev Inv-loop : tie.InvT-loop
-Inv-loop mw entries end table₀ d₀ table d = Adding mw entries end table₀ table d
+Inv-loop factor entries end table₀ d₀ table d = Adding factor entries end table₀ table d
 
 abbrev μ-loop : tie.MeasureT-loop
-μ-loop mw entries end table₀ d₀ table d = end - d
+μ-loop factor entries end table₀ d₀ table d = end - d
 
 abbrev start : tie.In-loop Inv-loop μ-loop → tie.Start Inv-loop μ-loop
 start t = t .before .before .before .before

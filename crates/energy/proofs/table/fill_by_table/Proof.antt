@@ -2,7 +2,7 @@
 use Prim.Native.Nat.{min}
 use native.Mathlib.Omega.{arith}
 use borrow.Author.Needs.{needs}
-use Rattle.energy.specs.Curve.{containmentCurve, response}
+use Rattle.energy.specs.Curve.{containmentCurve}
 use Rattle.energy.specs.Table.{Added}
 use Rattle.energy.proofs.Entries.{added, added-le, found-is, fill-fits, filled}
 use Rattle.energy.proofs.Services.{none}
@@ -22,12 +22,11 @@ entries-added r = r .before .before .before
 -- what it added
 near : (e : tie.After-fill-by-entries) →
     let a = start (table-of e) .args in
-    Added 0 (min (a .end) 501) (added (a .mw)) (a .table .now) (e .fill-by-entries .last .1 .1 .1 .0)
+    Added 0 (min (a .end) 501) (added (a .factor)) (a .table .now) (e .fill-by-entries .last .1 .1 .1 .0)
 near e = rw (e .before .before .before .smaller .ensures) at (e .fill-by-entries .ensures)
 
 returns : tie.Need-returns
-unfolding response
-returns c = none containmentCurve _ _ _ (omega (arith, c .if1 .taken))
+returns c = none containmentCurve _ _ _ (c .if1 .taken)
 
 stored-table-requires : tie.Need-stored-table-requires
 stored-table-requires c κs = search needs
@@ -39,16 +38,7 @@ slice-aggregate-fill-by-entries : tie.Need-slice-aggregate-fill-by-entries
 slice-aggregate-fill-by-entries c = search needs
 
 fill-by-entries-requires : tie.Need-fill-by-entries-requires
-fill-by-entries-requires c κs =
-    let m = c .before .before in
-    let t = m .before in
-    let s = start t in
-    record {
-      rule = t .stored-table .ensures;
-      has = omega (arith, m .smaller .ensures);
-      there = omega (arith, m .smaller .ensures, s .pre .there);
-      room = λ d. omega (arith, s .pre .room d);
-    }
+fill-by-entries-requires c κs = search needs
 
 array-read-response-by-entry : tie.Need-array-read-response-by-entry
 array-read-response-by-entry c = search needs
@@ -60,7 +50,7 @@ cast-last : tie.Need-cast-last
 cast-last c =
     let t = table-of (entries-added c) in
     let s = start t in
-    omega (arith, c .response-by-entry .ensures, found-is (s .args .mw) (t .stored-table .result) (t .stored-table .ensures) 500 (omega arith), added-le (s .args .mw) 500, s .pre .factor-most)
+    omega (arith, c .response-by-entry .ensures, found-is (s .args .factor) (t .stored-table .result) (t .stored-table .ensures) 500 (omega arith), added-le (s .args .factor) 500, s .pre .factor-most)
 
 parts-of-requires : tie.Need-parts-of-requires
 parts-of-requires c κs = search needs

@@ -18,6 +18,9 @@ start t = t .before .before .before
 stock : (t : tie.Then1) → isContainment (start t .args .curve) ≡ true
 stock t = let i = t .before .is-containment in sym (i .ensures) ∙ both-true (start t .args .by-table) (i .result) (t .if1 .taken) .1
 
+mul-factor : tie.Need-mul-factor
+mul-factor c = omega (arith, c .before .pre .factor-most)
+
 is-containment-requires : tie.Need-is-containment-requires
 is-containment-requires c κs = search needs
 
@@ -26,9 +29,6 @@ fill-by-table-requires c κs =
     let fits = start (c .before) .pre in
     record { factor-most = fits .factor-most; rule = rule; there = fits .there; room = fits .room }
 
-mul-fill-by-steps : tie.Need-mul-fill-by-steps
-mul-fill-by-steps c = omega (arith, c .before .before .before .pre .factor-most)
-
 fill-by-steps-requires : tie.Need-fill-by-steps-requires
 fill-by-steps-requires c κs = search needs
 
@@ -36,6 +36,7 @@ same-length : tie.Need-same-length
 same-length c = search needs
 
 returns : tie.Need-returns
+unfolding response
 returns c =
     let g = c .before .before in
     let t = g .before .before in
@@ -53,9 +54,9 @@ pub fill-service-spec : {M : Type 1} → statement M
 fill-service-spec =
     tie.close
     (tie.spec
+    mul-factor
     is-containment-requires
     fill-by-table-requires
-    mul-fill-by-steps
     fill-by-steps-requires
     same-length
     returns
