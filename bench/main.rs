@@ -27,7 +27,7 @@ extern "C" {
         count: usize,
     ) -> u64;
     fn bench_response_by_table(mw: u32, deviation: u16) -> u64;
-    fn bench_response_from(table: *const u32, mw: u32, deviation: u16) -> u64;
+    fn bench_response_from(table: &[u32; 501], mw: u32, deviation: u16) -> u64;
     fn bench_closings(
         mw: u32,
         size: u32,
@@ -300,7 +300,7 @@ fn sketched_period(q: [u32; 3], curves: [u32; 3], readings: &[u16]) -> u64 {
 
 // By interpolation: the curve comes at run time, so that a segment's width is divided by.
 #[inline(never)]
-extern "C" fn interpolated_response(mw: u32, deviation: u16) -> u64 {
+extern "C" fn interpolated_response(_: &[u32; 501], mw: u32, deviation: u16) -> u64 {
     let points = black_box(&CONTAINMENT).points();
     let mut last = points[0];
     if deviation < last.deviation {
@@ -331,8 +331,8 @@ static CONTAINMENT_TABLE: [u32; 501] = {
 
 // 1,000 times the product, divided by 11,100; 10 times it, divided by 111, is the same and stays in 64 bits.
 #[inline(never)]
-extern "C" fn tabled_response(mw: u32, deviation: u16) -> u64 {
-    let entry = CONTAINMENT_TABLE[deviation.min(500) as usize];
+extern "C" fn tabled_response(table: &[u32; 501], mw: u32, deviation: u16) -> u64 {
+    let entry = table[deviation.min(500) as usize];
     (10 * mw as u64 * entry as u64).div_ceil(111)
 }
 
@@ -1086,21 +1086,22 @@ fn same_or_by_kilowatts(now: u64, earlier: u64) -> bool {
     bounds(now).into_iter().zip(bounds(earlier)).all(|(now, earlier)| (now..=now + 2).contains(&earlier))
 }
 
-type Response = unsafe extern "C" fn(u32, u16) -> u64;
+// Each is lent the table, which some do not need, so that all are called alike.
+type Response = unsafe extern "C" fn(&[u32; 501], u32, u16) -> u64;
 
 // The proved ones, by the stored table and by one that is lent, and the plain ones.
-const PROVED_RESPONSES: [(&str, Response); 2] = [("response", bench_response_by_table), ("table lent", lent_response)];
+const PROVED_RESPONSES: [(&str, Response); 2] = [("response", stored_response), ("table lent", bench_response_from)];
 const PLAIN_RESPONSES: [Response; 2] = [interpolated_response, tabled_response];
 
-unsafe extern "C" fn lent_response(mw: u32, deviation: u16) -> u64 {
-    bench_response_from(CONTAINMENT_TABLE.as_ptr(), mw, deviation)
+unsafe extern "C" fn stored_response(_: &[u32; 501], mw: u32, deviation: u16) -> u64 {
+    bench_response_by_table(mw, deviation)
 }
 
 fn same_response(mw: u32, deviation: u16) {
-    let [interpolated, tabled] = PLAIN_RESPONSES.map(|f| unsafe { f(mw, deviation) });
+    let [interpolated, tabled] = PLAIN_RESPONSES.map(|f| unsafe { f(&CONTAINMENT_TABLE, mw, deviation) });
     assert_eq!(tabled, interpolated);
     for (_, f) in PROVED_RESPONSES {
-        assert_eq!(unsafe { f(mw, deviation) }, interpolated);
+        assert_eq!(unsafe { f(&CONTAINMENT_TABLE, mw, deviation) }, interpolated);
     }
 }
 
@@ -1116,7 +1117,7 @@ fn responses(random: &mut Random) {
                 let all = &all;
                 move |i: usize| {
                     let (mw, deviation) = black_box(all[i]);
-                    black_box(unsafe { f(mw, deviation) });
+                    black_box(unsafe { f(&CONTAINMENT_TABLE, mw, deviation) });
                 }
             });
             compare(work, name, all.len(), &ways);
