@@ -50,6 +50,20 @@ extern "C" {
         export_limit: i64,
         import_limit: i64,
     ) -> i64;
+    fn soe_quantity(
+        direction: u32,
+        available: u32,
+        offer: u32,
+        bid: u32,
+        mil: i64,
+        sil: i64,
+        sel: i64,
+        mel: i64,
+        ol: i64,
+        points: *const u8,
+        points_length: usize,
+        limit: u32,
+    ) -> i64;
     fn soe_instruction(
         machine: *mut u8,
         machine_length: usize,
@@ -59,6 +73,7 @@ extern "C" {
         limit: u32,
         available: u32,
         armed: u32,
+        energy: u32,
     ) -> i64;
 }
 
@@ -393,6 +408,69 @@ extern "C" fn terms_check(
 fn plain_terms(t: &Terms) -> i64 {
     let (l, h) = (t.low, t.high);
     terms_check(l[0], l[1], l[2], h[0], h[1], h[2], t.export_limit, t.import_limit)
+}
+
+// ---- the contracted quantity in plain Rust
+
+// The arguments of `soe_quantity`: the call is a good part of the time.
+#[inline(never)]
+unsafe extern "C" fn plain_quantity(
+    direction: u32,
+    available: u32,
+    offer: u32,
+    bid: u32,
+    mil: i64,
+    sil: i64,
+    sel: i64,
+    mel: i64,
+    ol: i64,
+    points: *const u8,
+    points_length: usize,
+    limit: u32,
+) -> i64 {
+    let bytes = unsafe { std::slice::from_raw_parts(points, points_length) };
+    if !(1..=2).contains(&direction) || available > 1 || limit > 4_000_000 {
+        return -12;
+    }
+    if ![mil, sil, sel, mel, ol].iter().all(|level| (-2_000_000..=2_000_000).contains(level)) {
+        return -12;
+    }
+    if !(mil <= sil && sil <= 0 && 0 <= sel && sel <= mel && mil <= ol && ol <= mel) {
+        return -12;
+    }
+    if bytes.len() % 8 != 0 || !(16..=40).contains(&bytes.len()) {
+        return -12;
+    }
+    let mut points = [(0, 0); 5];
+    let points = &mut points[..bytes.len() / 8];
+    for (point, bytes) in points.iter_mut().zip(bytes.chunks(8)) {
+        let number = |b: &[u8]| u32::from_le_bytes(b.try_into().unwrap()) as u64;
+        *point = (number(&bytes[..4]), number(&bytes[4..]));
+    }
+    if points[0].0 != 0 || points.iter().any(|p| p.0 > 4_000_000 || p.1 > 4_000_000) {
+        return -12;
+    }
+    if points.windows(2).any(|w| w[1].0 <= w[0].0 || w[1].1 < w[0].1) {
+        return -12;
+    }
+    if offer > 10_000_000 || bid > 10_000_000 {
+        return -18;
+    }
+    if available == 0 || (if direction == 1 { offer } else { bid }) == 0 {
+        return 0;
+    }
+    let whole = sel == 0 && sil == 0;
+    let room = match direction {
+        1 if whole || ol >= sel => mel - ol,
+        1 if ol <= sil => sil - ol,
+        2 if whole || ol <= sil => ol - mil,
+        2 if ol >= sel => ol - sel,
+        _ => 0,
+    } as u64;
+    let last = points.len() - 1;
+    let i = (1..last).find(|&i| room <= points[i].0).unwrap_or(last);
+    let ((r, c), (s, d)) = (points[i - 1], points[i]);
+    (c + (d - c) * (room - r) / (s - r)).min(limit as u64) as i64
 }
 
 // ---- the requirement in plain Rust
@@ -770,6 +848,7 @@ unsafe extern "C" fn plain_instruction(
     limit: u32,
     available: u32,
     armed: u32,
+    energy: u32,
 ) -> i64 {
     let bytes = unsafe { std::slice::from_raw_parts_mut(machine, machine_length) };
     let Some(mut m) = Machine::read(bytes) else {
@@ -785,8 +864,9 @@ unsafe extern "C" fn plain_instruction(
         return -16;
     }
     m.due(time);
+    let met = limit != 0 && available == 1 && armed == 1 && (1..=10_000_000).contains(&energy);
     match event {
-        1 if m.state == IDLE && limit != 0 && available == 1 && armed == 1 => m.issue(START_PENDING, time, at),
+        1 if m.state == IDLE && met => m.issue(START_PENDING, time, at),
         2 if m.state == DELIVERING => m.issue(CEASE_PENDING, time, at),
         3 if m.unanswered() => m.accepted = 1,
         4 if m.unanswered() => m.reject(),
@@ -872,6 +952,61 @@ fn terms(random: &mut Random) -> Terms {
 }
 
 #[derive(Clone, Copy)]
+struct Unit {
+    direction: u32,
+    available: u32,
+    offer: u32,
+    bid: u32,
+    levels: [i64; 5],
+    points: [u8; 40],
+    length: usize,
+    limit: u32,
+}
+
+// A unit that is available and has energy for offers and for bids.
+fn unit(random: &mut Random) -> Unit {
+    let mut below = |n: i64| random.below(n as u32) as i64;
+    let (mil, mel) = (-below(2_000_001), below(2_000_001));
+    let (sil, sel) = if below(3) == 0 { (0, 0) } else { (-below(1 - mil), below(1 + mel)) };
+    let ol = mil + below(mel - mil + 1);
+    let length = 8 * (2 + below(4) as usize);
+    let mut points = [0; 40];
+    let (mut room, mut capability) = (0, 0);
+    for point in points.chunks_mut(8) {
+        point[..4].copy_from_slice(&(room as u32).to_le_bytes());
+        point[4..].copy_from_slice(&(capability as u32).to_le_bytes());
+        room += 1 + below(1_000_000);
+        capability += below(1_000_000);
+    }
+    Unit {
+        direction: 1 + below(2) as u32,
+        available: 1,
+        offer: 1 + below(10_000_000) as u32,
+        bid: 1 + below(10_000_000) as u32,
+        levels: [mil, sil, sel, mel, ol],
+        points,
+        length,
+        limit: below(4_000_001) as u32,
+    }
+}
+
+// A unit that may be unavailable, without energy or such that its quantity is refused.
+fn odd_unit(random: &mut Random) -> Unit {
+    let mut u = unit(random);
+    match random.below(8) {
+        0 => u.available = random.below(3),
+        1 => u.offer = 0,
+        2 => u.bid = 0,
+        3 => u.offer += random.below(10_000_000),
+        4 => u.levels[random.below(5) as usize] += random.below(2_000_000) as i64,
+        5 => u.points[random.below(u.length as u32) as usize] = random.below(256) as u8,
+        6 => u.length = random.below(41) as usize,
+        _ => {}
+    }
+    u
+}
+
+#[derive(Clone, Copy)]
 struct Event {
     event: u32,
     time: u64,
@@ -879,11 +1014,12 @@ struct Event {
     limit: u32,
     available: u32,
     armed: u32,
+    energy: u32,
 }
 
-// An event of a unit that is available and armed.
+// An event of a unit that is available and armed and has energy.
 fn event(event: u32, time: u64, at: u64) -> Event {
-    Event { event, time, at, limit: 25_000, available: 1, armed: 1 }
+    Event { event, time, at, limit: 25_000, available: 1, armed: 1, energy: 50_000 }
 }
 
 // A unit started and ceased over and over, each instruction accepted, and a tick at its time.
@@ -929,6 +1065,7 @@ fn odd(random: &mut Random) -> (Lent, Event) {
     e.limit *= random.below(2);
     e.available = random.below(3);
     e.armed = random.below(3);
+    e.energy *= random.below(3);
     (lent, e)
 }
 
@@ -1199,12 +1336,45 @@ fn term_checks(random: &mut Random) {
     }
 }
 
-type Instruct = unsafe extern "C" fn(*mut u8, usize, u32, u64, u64, u32, u32, u32) -> i64;
+type Contracted = unsafe extern "C" fn(u32, u32, u32, u32, i64, i64, i64, i64, i64, *const u8, usize, u32) -> i64;
+
+const QUANTITY_WAYS: [Contracted; 2] = [soe_quantity, plain_quantity];
+
+fn contracted(f: Contracted, u: &Unit) -> i64 {
+    let [mil, sil, sel, mel, ol] = u.levels;
+    let points = u.points.as_ptr();
+    unsafe { f(u.direction, u.available, u.offer, u.bid, mil, sil, sel, mel, ol, points, u.length, u.limit) }
+}
+
+fn quantities(random: &mut Random) {
+    let good: Vec<_> = (0..10_000).map(|_| unit(random)).collect();
+    let odd: Vec<_> = (0..10_000).map(|_| odd_unit(random)).collect();
+    for (all, kind) in [(good, "with energy"), (odd, "or not")] {
+        let found: Vec<i64> = all
+            .iter()
+            .map(|u| {
+                let [proved, plain] = QUANTITY_WAYS.map(|f| contracted(f, u));
+                assert_eq!(proved, plain);
+                plain
+            })
+            .collect();
+        let refused = found.iter().filter(|&&kw| kw < 0).count();
+        let ways = QUANTITY_WAYS.map(|f| {
+            let all = &all;
+            move |i: usize| {
+                black_box(contracted(f, black_box(&all[i])));
+            }
+        });
+        compare("quantity", &format!("10,000 {kind}, {refused} refused"), all.len(), &ways);
+    }
+}
+
+type Instruct = unsafe extern "C" fn(*mut u8, usize, u32, u64, u64, u32, u32, u32, u32) -> i64;
 
 const INSTRUCTION_WAYS: [Instruct; 2] = [soe_instruction, plain_instruction];
 
 fn instruct(f: Instruct, machine: *mut u8, length: usize, e: &Event) -> i64 {
-    unsafe { f(machine, length, e.event, e.time, e.at, e.limit, e.available, e.armed) }
+    unsafe { f(machine, length, e.event, e.time, e.at, e.limit, e.available, e.armed, e.energy) }
 }
 
 // The number, and the bytes that both have afterwards.
@@ -1340,6 +1510,7 @@ fn main() {
     closings(&within);
     reports(&mut random);
     term_checks(&mut random);
+    quantities(&mut random);
     instructions(&mut random);
     println!("{:14} {:38} {:>9} {}", "work", "of", "table, us", title("steps, us"));
     for kinds in [&within[..], &any] {

@@ -70,15 +70,27 @@ static void terms(const char *what, int64_t expected, uint32_t low_dc, uint32_t 
 static const uint32_t FOUR[] = {0, 0, 10000, 9000, 50000, 25000, 100000, 40000};
 static const uint32_t THREE[] = {0, 0, 30000, 20000, 100000, 60000};
 
-/* The quantity with a MIL of -100 MW and a MEL of 100 MW, and `length` bytes of the points. */
-static void quantity(const char *what, int64_t expected, uint32_t direction, int64_t sil, int64_t sel, int64_t ol,
-                     const uint32_t *points, size_t length, uint32_t limit) {
+/* A quantity with a MIL of -100 MW and a MEL of 100 MW, and `length` bytes of the points. */
+static void contracted(const char *what, int64_t expected, uint32_t direction, uint32_t available, uint32_t offer, uint32_t bid,
+                       int64_t sil, int64_t sel, int64_t ol, const uint32_t *points, size_t length, uint32_t limit) {
     uint8_t bytes[48] = {0}, lent[48];
     for (size_t i = 0; i < length; i++)
         bytes[i] = (uint8_t)(points[i / 4] >> 8 * (i % 4));
     memcpy(lent, bytes, sizeof lent);
-    int64_t got = soe_quantity(direction, -100000, sil, sel, 100000, ol, bytes, length, limit);
+    int64_t got = soe_quantity(direction, available, offer, bid, -100000, sil, sel, 100000, ol, bytes, length, limit);
     check(what, got, expected, memcmp(bytes, lent, sizeof lent) == 0);
+}
+
+/* That of an available unit with 1 kWh for offers and 1 kWh for bids. */
+static void quantity(const char *what, int64_t expected, uint32_t direction, int64_t sil, int64_t sel, int64_t ol,
+                     const uint32_t *points, size_t length, uint32_t limit) {
+    contracted(what, expected, direction, 1, 1, 1, sil, sel, ol, points, length, limit);
+}
+
+/* That of a unit with 30 MW of headroom, where the four points give 17 MW, and 170 MW of footroom, where they give 61. */
+static void energies(const char *what, int64_t expected, uint32_t direction, uint32_t available, uint32_t offer, uint32_t bid,
+                     uint32_t limit) {
+    contracted(what, expected, direction, available, offer, bid, 0, 0, 70000, FOUR, 32, limit);
 }
 
 /* The machine of one direction, which the checks of instructions hand on from one to the next, between bytes that no call is
@@ -101,24 +113,30 @@ static void put_machine(uint32_t state, uint32_t accepted, uint64_t last, uint64
     put(machine + 24, 8, at);
 }
 
-/* An event that is carried out: of a unit that is available and armed, with a limit of 25 MW. After `at` stands the machine
- * that it leaves. */
+/* An event that is carried out: of a unit that is available and armed, with a limit of 25 MW and 10,000,000 kWh. After `at`
+ * stands the machine that it leaves. */
 static void carried_out(const char *what, uint32_t event, uint64_t time, uint64_t at, uint32_t state, uint32_t accepted,
                         uint64_t last, uint64_t issue, uint64_t instructed) {
     uint8_t found[sizeof around];
     memcpy(found, around, sizeof around);
     put_machine(state, accepted, last, issue, instructed);
-    int64_t got = soe_instruction(found + BESIDE, SOE_MACHINE, event, time, at, 25000, 1, 1);
+    int64_t got = soe_instruction(found + BESIDE, SOE_MACHINE, event, time, at, 25000, 1, 1, 10000000);
     check(what, got, 0, memcmp(found, around, sizeof around) == 0);
 }
 
 /* An event that is refused, on `length` bytes: the machine stays, and what was due is not done. */
-static void refused(const char *what, int64_t expected, size_t length, uint32_t event, uint64_t time, uint64_t at,
-                    uint32_t limit, uint32_t available, uint32_t armed) {
+static void refused_with(const char *what, int64_t expected, size_t length, uint32_t event, uint64_t time, uint64_t at,
+                         uint32_t limit, uint32_t available, uint32_t armed, uint32_t energy) {
     uint8_t found[sizeof around];
     memcpy(found, around, sizeof around);
-    int64_t got = soe_instruction(found + BESIDE, length, event, time, at, limit, available, armed);
+    int64_t got = soe_instruction(found + BESIDE, length, event, time, at, limit, available, armed, energy);
     check(what, got, expected, memcmp(found, around, sizeof around) == 0);
+}
+
+/* The same with an energy of 1 kWh. */
+static void refused(const char *what, int64_t expected, size_t length, uint32_t event, uint64_t time, uint64_t at,
+                    uint32_t limit, uint32_t available, uint32_t armed) {
+    refused_with(what, expected, length, event, time, at, limit, available, armed, 1);
 }
 
 static void instructions(void) {
@@ -130,7 +148,11 @@ static void instructions(void) {
     refused("instruction, start with limit 0", -17, 32, SOE_START, 1000, 1120, 0, 1, 1);
     refused("instruction, start of a unit not available", -17, 32, SOE_START, 1000, 1120, 25000, 0, 1);
     refused("instruction, start of a unit not armed", -17, 32, SOE_START, 1000, 1120, 25000, 1, 0);
+    refused_with("instruction, start with no energy", -17, 32, SOE_START, 1000, 1120, 25000, 1, 1, 0);
+    refused_with("instruction, start with 10,000,001 kWh", -17, 32, SOE_START, 1000, 1120, 25000, 1, 1, 10000001);
+    refused_with("instruction, start with -1 kWh as C converts it", -17, 32, SOE_START, 1000, 1120, 25000, 1, 1, (uint32_t)-1);
     refused("instruction, 16 before 17", -16, 32, SOE_START, 1000, 1119, 0, 0, 0);
+    refused_with("instruction, 16 before 17 for no energy", -16, 32, SOE_START, 1000, 1119, 25000, 1, 1, 0);
     refused("instruction, available 2", -13, 32, SOE_START, 1000, 1119, 25000, 2, 1);
     refused("instruction, armed -1 as C converts it", -13, 32, SOE_START, 1000, 1120, 25000, 1, (uint32_t)-1);
     refused("instruction, cease of an idle direction", -17, 32, SOE_CEASE, 1000, 1120, 0, 0, 0);
@@ -231,6 +253,25 @@ int main(void) {
     quantity("quantity, level above MEL", -12, 1, 0, 0, 100001, FOUR, 32, 4000000);
     quantity("quantity, one point", -12, 1, 0, 0, 70000, FOUR, 8, 4000000);
     quantity("quantity, a byte too few", -12, 1, 0, 0, 70000, FOUR, 31, 4000000);
+
+    energies("quantity, low with energy for offers alone", 17000, 1, 1, 1, 0, 4000000);
+    energies("quantity, low without energy for offers", 0, 1, 1, 0, 10000000, 4000000);
+    energies("quantity, high with energy for bids alone", 61000, 2, 1, 0, 1, 4000000);
+    energies("quantity, high without energy for bids", 0, 2, 1, 10000000, 0, 4000000);
+    energies("quantity, both energies at their limit", 17000, 1, 1, 10000000, 10000000, 4000000);
+    energies("quantity, a unit not available, low", 0, 1, 0, 1, 1, 4000000);
+    energies("quantity, a unit not available, high", 0, 2, 0, 1, 1, 4000000);
+    energies("quantity, offer energy 10,000,001", -18, 1, 1, 10000001, 1, 4000000);
+    energies("quantity, offer energy 10,000,001, high", -18, 2, 1, 10000001, 1, 4000000);
+    energies("quantity, bid energy 10,000,001, low", -18, 1, 1, 1, 10000001, 4000000);
+    energies("quantity, bid energy 10,000,001 of a unit not available", -18, 2, 0, 0, 10000001, 4000000);
+    energies("quantity, offer energy -1 as C converts it", -18, 1, 1, (uint32_t)-1, 1, 4000000);
+    energies("quantity, available 2", -12, 1, 2, 1, 1, 4000000);
+    energies("quantity, available -1 as C converts it", -12, 1, (uint32_t)-1, 1, 1, 4000000);
+    energies("quantity, available 2 before an energy", -12, 1, 2, 10000001, 1, 4000000);
+    energies("quantity, direction 0 before an energy", -12, 0, 1, 10000001, 1, 4000000);
+    energies("quantity, limit 4,000,001 before an energy", -12, 1, 1, 1, 10000001, 4000001);
+    contracted("quantity, a byte too few before an energy", -12, 1, 1, 10000001, 1, 0, 0, 70000, FOUR, 31, 4000000);
 
     instructions();
     return differences;

@@ -1,7 +1,7 @@
 //! The functions of include/soe.h, each called beside the model.
 
 use crate::instructions::{self, Call};
-use crate::model::{self, Int, Levels, Terms};
+use crate::model::{self, Int, Terms, Unit};
 use crate::tally::{stop, Tally};
 
 extern "C" {
@@ -20,6 +20,9 @@ extern "C" {
 
     fn soe_quantity(
         direction: u32,
+        available: u32,
+        offer: u32,
+        bid: u32,
         mil: i64,
         sil: i64,
         sel: i64,
@@ -39,6 +42,7 @@ extern "C" {
         limit: u32,
         available: u32,
         armed: u32,
+        energy: u32,
     ) -> i64;
 }
 
@@ -117,18 +121,17 @@ pub fn bytes_of(points: &[(Int, Int)]) -> Vec<u8> {
     numbers.flat_map(|n| (n as u32).to_le_bytes()).collect()
 }
 
-/// `bytes` of a length other than 16, 24, 32 or 40 have no points to read: 12.
-pub fn quantity(
+/// The quantity of a unit whose points are lent as `bytes`. A length other than 16, 24, 32 or 40 has no points to read: 12. The
+/// unit's numbers fit the function's.
+pub fn quantity_of(
     topic: &'static str,
     direction: u32,
-    levels: &Levels,
+    unit: &Unit,
     bytes: &[u8],
-    limit: u32,
     tally: &mut Tally,
 ) -> i64 {
-    let l = levels;
     let number = |b: &[u8]| Int::from(u32::from_le_bytes(b.try_into().unwrap()));
-    let points: Vec<(Int, Int)> = if bytes.len() % 8 == 0 {
+    let points = if bytes.len() % 8 == 0 {
         bytes
             .chunks(8)
             .map(|b| (number(&b[..4]), number(&b[4..])))
@@ -136,14 +139,22 @@ pub fn quantity(
     } else {
         Vec::new()
     };
-    let (expected, refusal) = match model::quantity(direction.into(), l, &points, limit.into()) {
+    let unit = Unit {
+        points,
+        ..unit.clone()
+    };
+    let (expected, refusal) = match unit.quantity(direction.into()) {
         Ok(quantity) => (quantity as i64, 0),
         Err(number) => (-number, number),
     };
+    let l = &unit.levels;
     // SAFETY: the pointer is not null, also for no bytes, and leads to as many bytes as its length says.
     let found = unsafe {
         soe_quantity(
             direction,
+            unit.available as u32,
+            unit.offer as u32,
+            unit.bid as u32,
             l.mil as i64,
             l.sil as i64,
             l.sel as i64,
@@ -151,12 +162,12 @@ pub fn quantity(
             l.ol as i64,
             bytes.as_ptr(),
             bytes.len(),
-            limit,
+            unit.limit as u32,
         )
     };
     if found != expected {
         let shown = format!(
-            "soe_quantity, direction {direction}, {l:?}, points {points:?} ({} bytes), limit {limit}\n",
+            "soe_quantity, direction {direction}, {unit:?} ({} bytes)\n",
             bytes.len()
         );
         stop(
@@ -166,8 +177,19 @@ pub fn quantity(
             &found.to_string(),
         );
     }
-    tally.count(topic, "soe_quantity", refusal);
+    let energy = if direction == 1 { unit.offer } else { unit.bid };
+    let kind = match (refusal, unit.available, energy) {
+        (0, 0, _) => "unavailable",
+        (0, _, 0) => "no energy",
+        _ => "soe_quantity",
+    };
+    tally.count(topic, kind, refusal);
     expected
+}
+
+/// The quantity of a unit with its own points.
+pub fn quantity(topic: &'static str, direction: u32, unit: &Unit, tally: &mut Tally) -> i64 {
+    quantity_of(topic, direction, unit, &bytes_of(&unit.points), tally)
 }
 
 /// The bytes before and after those that an event's call is lent.
@@ -206,6 +228,7 @@ pub fn instruction(
             call.limit,
             call.available,
             call.armed,
+            call.energy,
         )
     };
     if found != number || bytes != expected {

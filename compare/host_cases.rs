@@ -1,10 +1,10 @@
 //! Cases for the functions of include/soe.h.
 
 use crate::host::{self, BEHIND};
-use crate::model::{self, Direction, Int, Levels, Terms};
+use crate::model::{self, Direction, Int, Levels, Terms, Unit};
 use crate::papers::REPORT_INPUT;
 use crate::random::Random;
-use crate::tally::Tally;
+use crate::tally::{printed, Tally};
 
 const MAX: Int = u32::MAX as Int;
 
@@ -149,33 +149,150 @@ fn break_points(random: &mut Random, points: &mut Vec<(Int, Int)>) {
     }
 }
 
+/// Energies at their limits and beside them, and such of which a part of the bytes is 0.
+const ENERGIES: [Int; 9] = [
+    0,
+    1,
+    2,
+    9_999_999,
+    10_000_000,
+    10_000_001,
+    1 << 24,
+    1 << 31,
+    MAX,
+];
+
+/// A unit that nothing refuses, available and with energy for offers and for bids.
+fn good_unit(random: &mut Random) -> Unit {
+    Unit {
+        available: 1,
+        offer: random.within(1, 10_000_000),
+        bid: random.within(1, 10_000_000),
+        levels: good_levels(random),
+        points: good_points(random),
+        limit: random.within(0, 4_000_000),
+    }
+}
+
+/// What No. 6 has before the data of 01: energies around their limits, and whether the unit is available.
+fn any_energies(random: &mut Random, unit: &mut Unit) {
+    match random.below(6) {
+        0 => unit.offer = 0,
+        1 => unit.bid = 0,
+        2 => unit.offer = random.pick(&ENERGIES),
+        3 => unit.bid = random.pick(&ENERGIES),
+        4 => unit.available = 0,
+        _ => unit.available = random.pick(&[0, 1, 2, 256, 257, MAX]),
+    }
+}
+
+/// The three laws of No. 6 for a unit whose quantity the call gave: it is 01's with both energies above 0, never above 01's, and
+/// the same whatever the other direction's energy.
+fn quantity_laws(random: &mut Random, direction: u32, unit: &Unit, found: i64, tally: &mut Tally) {
+    let Ok(most) = unit.quantity_in_01(direction.into()) else {
+        return printed("01 refuses", -12, found);
+    };
+    let most = most as i64;
+    printed("never above 01's", true, found <= most);
+    let good = |energy: Int| (0..=10_000_000).contains(&energy);
+    if !(good(unit.offer) && good(unit.bid)) {
+        return;
+    }
+    if unit.available == 1 && unit.offer > 0 && unit.bid > 0 {
+        printed("01's with energy", most, found);
+    }
+    let mut other = unit.clone();
+    let energy = random.pick(&[0, 1, 9_999_999, 10_000_000]);
+    match direction {
+        1 => other.bid = energy,
+        _ => other.offer = energy,
+    }
+    let again = host::quantity("quantity, laws", direction, &other, tally);
+    printed("whatever the other energy", found, again);
+}
+
 pub fn quantity(random: &mut Random, count: usize, tally: &mut Tally) {
     const TOPIC: &str = "quantity";
     for _ in 0..count {
-        let mut levels = good_levels(random);
-        let mut points = good_points(random);
+        let mut unit = good_unit(random);
         let mut direction = random.between(1, 2) as u32;
-        let mut limit = random.within(0, 4_000_000) as u32;
+        for _ in 0..random.below(3) {
+            any_energies(random, &mut unit);
+        }
         for _ in 0..random.below(3) {
             match random.below(4) {
-                0 => break_levels(random, &mut levels),
-                1 if !points.is_empty() => break_points(random, &mut points),
-                2 => limit = random.pick(&[0, 1, 3_999_999, 4_000_000, 4_000_001, u32::MAX]),
+                0 => break_levels(random, &mut unit.levels),
+                1 if !unit.points.is_empty() => break_points(random, &mut unit.points),
+                2 => unit.limit = random.pick(&[0, 1, 3_999_999, 4_000_000, 4_000_001, MAX]),
                 _ => direction = random.pick(&[0, 1, 2, 3, 257, 258, u32::MAX]),
             }
         }
-        let mut bytes = host::bytes_of(&points);
         if random.once_in(10) {
+            let mut bytes = host::bytes_of(&unit.points);
             let length = random.below(58);
             bytes.resize(length, 0);
+            host::quantity_of(TOPIC, direction, &unit, &bytes, tally);
+        } else {
+            let found = host::quantity(TOPIC, direction, &unit, tally);
+            quantity_laws(random, direction, &unit, found, tally);
         }
-        host::quantity(TOPIC, direction, &levels, &bytes, limit, tally);
     }
-    // Each length of the points' bytes, around the ones that hold 2 to 5 points.
-    let levels = good_levels(random);
+    // Each length of the points' bytes, around the ones that hold 2 to 5 points, once with an energy above its limit.
+    let unit = Unit {
+        limit: 4_000_000,
+        ..good_unit(random)
+    };
+    let above = Unit {
+        bid: 10_000_001,
+        ..unit.clone()
+    };
     let rising = host::bytes_of(&(0..8).map(|i| (i, i)).collect::<Vec<_>>());
     for length in 0..=rising.len() {
-        host::quantity(TOPIC, 1, &levels, &rising[..length], 4_000_000, tally);
+        host::quantity_of(TOPIC, 1, &unit, &rising[..length], tally);
+        host::quantity_of(TOPIC, 1, &above, &rising[..length], tally);
+    }
+}
+
+/// Every direction, availability and pair of energies around the limits, for data that 01 lets through and for data that break
+/// each of its rules. At headroom 30 MW the quantity is 17 MW, at footroom 170 MW 61.
+pub fn quantity_edges(tally: &mut Tally) {
+    let good = Unit {
+        available: 1,
+        offer: 1,
+        bid: 1,
+        levels: Levels {
+            mil: -100_000,
+            sil: 0,
+            sel: 0,
+            mel: 100_000,
+            ol: 70_000,
+        },
+        points: vec![(0, 0), (10_000, 9_000), (50_000, 25_000), (100_000, 40_000)],
+        limit: 4_000_000,
+    };
+    for (direction, quantity) in [(1, 17_000), (2, 61_000)] {
+        let found = host::quantity("quantity, edges", direction, &good, tally);
+        printed("quantity", quantity, found);
+    }
+    let mut outside = good.clone();
+    outside.levels.ol = 100_001;
+    let mut falling = good.clone();
+    falling.points[3].1 = 24_999;
+    let limits = [0, 16_999, 4_000_001].map(|limit| Unit {
+        limit,
+        ..good.clone()
+    });
+    for mut unit in [good, outside, falling].into_iter().chain(limits) {
+        for direction in [0, 1, 2, 3, 257, u32::MAX] {
+            for available in [0, 1, 2, 255, 256, 257, MAX] {
+                for offer in ENERGIES {
+                    for bid in ENERGIES {
+                        (unit.available, unit.offer, unit.bid) = (available, offer, bid);
+                        host::quantity("quantity, edges", direction, &unit, tally);
+                    }
+                }
+            }
+        }
     }
 }
 

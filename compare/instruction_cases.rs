@@ -18,6 +18,7 @@ fn start(time: Int, at: Int) -> Call {
         limit: 1,
         available: 1,
         armed: 1,
+        energy: 1,
     }
 }
 
@@ -30,6 +31,7 @@ fn event(event: u32, time: Int) -> Call {
         limit: 0,
         available: 0,
         armed: 0,
+        energy: 0,
     }
 }
 
@@ -87,6 +89,7 @@ fn kinds() -> Vec<Kind> {
                     ends.push("17");
                 } else if event == "start" {
                     ends.extend(["17 limit", "17 available", "17 armed"]);
+                    ends.extend(["17 no energy", "17 energy above"]);
                 }
                 if event == "start" || event == "cease" {
                     ends.push("16");
@@ -114,11 +117,14 @@ fn kind_of(machine: &[u8], call: &Call, number: i64, after: &[u8]) -> Option<Kin
                 limit,
                 available,
                 armed,
+                energy,
                 ..
-            } if now == "idle" => match (limit != 0, available, armed) {
-                (false, true, true) => "17 limit",
-                (true, false, true) => "17 available",
-                (true, true, false) => "17 armed",
+            } if now == "idle" => match (limit != 0, available, armed, energy) {
+                (false, true, true, 1..=10_000_000) => "17 limit",
+                (true, false, true, 1..=10_000_000) => "17 available",
+                (true, true, false, 1..=10_000_000) => "17 armed",
+                (true, true, true, 0) => "17 no energy",
+                (true, true, true, 10_000_001..) => "17 energy above",
                 _ => return None,
             },
             _ => "17",
@@ -177,7 +183,20 @@ pub fn edges(tally: &mut Tally) {
     }
 }
 
-/// Each event at a time, with start and cease times around 120 after it, and starts that lack one thing.
+/// A start's energies on both sides of their limits, and such of which a part of the bytes is within them.
+const ENERGIES: [u32; 8] = [
+    0,
+    1,
+    10_000_000,
+    10_000_001,
+    1 << 24,
+    10_000_000 + (1 << 24),
+    (1 << 31) + 1,
+    u32::MAX,
+];
+
+/// Each event at a time, with start and cease times around 120 after it, starts that lack one thing, and starts with energies around
+/// the limits.
 fn each_event(machine: &[u8], time: Int, tally: &mut Tally) {
     let mut calls = vec![event(3, time), event(4, time), event(5, time)];
     for at in [0, time, time + 119, time + 120, time + 121, MOST] {
@@ -192,6 +211,7 @@ fn each_event(machine: &[u8], time: Int, tally: &mut Tally) {
             ..start
         });
         calls.push(Call { armed: 0, ..start });
+        calls.extend(ENERGIES.map(|energy| Call { energy, ..start }));
     }
     for call in calls {
         host::instruction("machine, edges", machine, &call, tally);
@@ -236,7 +256,7 @@ pub fn damaged(tally: &mut Tally) {
     }
 }
 
-/// An event that there is not; available and armed neither yes nor no, which only a start looks at.
+/// An event that there is not; available and armed neither yes nor no, and any energy, which only a start looks at.
 fn damaged_call(machine: &[u8], call: &Call, tally: &mut Tally) {
     for event in [0, 6, 7, 255, 256, 257, 261, 65_537, 0x8000_0005, u32::MAX] {
         malformed("event", machine, &Call { event, ..*call }, tally);
@@ -261,6 +281,12 @@ fn damaged_call(machine: &[u8], call: &Call, tally: &mut Tally) {
                 let found = host::instruction(DAMAGED, machine, &changed, tally);
                 printed("limit, available and armed", &expected, &found);
             }
+        }
+    }
+    for energy in ENERGIES {
+        let found = host::instruction(DAMAGED, machine, &Call { energy, ..*call }, tally);
+        if call.event != 1 {
+            printed("energy", &expected, &found);
         }
     }
 }
@@ -365,6 +391,11 @@ fn any_call(random: &mut Random, machine: &Machine) -> Call {
         limit: random.pick(&[0, 1, 1, 2, 256, 25_000, 65_536, 1 << 31, u32::MAX, u32::MAX]),
         available: yes(random),
         armed: yes(random),
+        energy: match random.below(10) {
+            0 => random.pick(&ENERGIES),
+            1..=4 => random.pick(&[1, 1, 10_000_000]),
+            _ => random.within(1, 10_000_000) as u32,
+        },
     }
 }
 

@@ -1,4 +1,4 @@
-//! No. 2 of paper 02, start and cease instructions, written out from the paper alone, and the bytes in which a C host keeps a
+//! No. 2 of paper 02, start and cease instructions, with the energy of No. 6, written out from the paper alone, and the bytes in which a C host keeps a
 //! machine, from include/soe.h. Every number is an i128, so that 120 after any time is a number.
 
 use crate::model::Int;
@@ -21,6 +21,7 @@ pub enum State {
 }
 
 /// "Events are start, cease, accept, reject and tick." "A start carries the limit and whether the unit is available and armed."
+/// "A start in No. 2 now also carries its direction's energy."
 #[derive(Clone, Copy, PartialEq, Eq, Debug)]
 pub enum Event {
     Start {
@@ -28,6 +29,7 @@ pub enum Event {
         limit: Int,
         available: bool,
         armed: bool,
+        energy: Int,
     },
     Cease {
         at: Int,
@@ -93,13 +95,15 @@ impl State {
         };
         let unanswered = self.pending().is_some_and(|i| !i.accepted);
         match (*event, self) {
-            // "It needs a nonzero limit, both of these, and an idle direction."
+            // "It needs a nonzero limit, both of these, and an idle direction." The energy "must be 1 to 10,000,000 (17 where
+            // not)".
             (
                 Start {
                     at,
                     limit,
                     available,
                     armed,
+                    energy: 1..=10_000_000,
                 },
                 Idle,
             ) if limit != 0 && available && armed => Some(StartPending(issued(at))),
@@ -226,6 +230,7 @@ pub struct Call {
     pub limit: u32,
     pub available: u32,
     pub armed: u32,
+    pub energy: u32,
 }
 
 impl Call {
@@ -238,6 +243,7 @@ impl Call {
                 limit: self.limit.into(),
                 available: yes_or_no(self.available.into())?,
                 armed: yes_or_no(self.armed.into())?,
+                energy: self.energy.into(),
             }),
             2 => Some(Cease { at }),
             3 => Some(Accept),

@@ -59,6 +59,7 @@ fn compare(seed: u64, rounds: u64, ledger_trace: &str, containment_table: &str) 
     day::compare(runs, tally);
     gain::compare(runs, tally);
     host_cases::damaged_reports(tally);
+    host_cases::quantity_edges(tally);
     instruction_cases::edges(tally);
     instruction_cases::damaged(tally);
     instruction_cases::lists(random, 2_000, tally);

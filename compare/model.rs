@@ -715,27 +715,59 @@ fn capability(points: &[(Int, Int)], room: Int) -> Int {
     line(room, points[i - 1], points[i]).rounded_down()
 }
 
-/// "Contracted quantity is the smaller of capability and the submitted limit." Low services stand on headroom, high ones on
-/// footroom (003, Response Capability).
-pub fn quantity(
-    direction: Int,
-    levels: &Levels,
-    points: &[(Int, Int)],
-    limit: Int,
-) -> Result<Int, i64> {
-    if !(1..=2).contains(&direction)
-        || !levels.good()
-        || !points_good(points)
-        || !(0..=4_000_000).contains(&limit)
-    {
-        return Err(12);
+/// A unit as the quantity of a direction asks for it.
+#[derive(Clone, Debug)]
+pub struct Unit {
+    pub available: Int,
+    pub offer: Int,
+    pub bid: Int,
+    pub levels: Levels,
+    pub points: Vec<(Int, Int)>,
+    pub limit: Int,
+}
+
+impl Unit {
+    /// 01's: "Contracted quantity is the smaller of capability and the submitted limit." Low services stand on headroom, high
+    /// ones on footroom (003, Response Capability).
+    pub fn quantity_in_01(&self, direction: Int) -> Result<Int, i64> {
+        if !(1..=2).contains(&direction)
+            || !self.levels.good()
+            || !points_good(&self.points)
+            || !(0..=4_000_000).contains(&self.limit)
+        {
+            return Err(12);
+        }
+        let room = if direction == 1 {
+            self.levels.headroom()
+        } else {
+            self.levels.footroom()
+        };
+        Ok(capability(&self.points, room).min(self.limit))
     }
-    let room = if direction == 1 {
-        levels.headroom()
-    } else {
-        levels.footroom()
-    };
-    Ok(capability(points, room).min(limit))
+
+    /// 02, No. 6: "The calculation takes both energies, 0 to 10,000,000 kWh, the direction (1 low, 2 high) and whether the unit
+    /// is available (1 yes, 0 no); any other direction or availability is 12." "18: energy above its limit, checked after 12."
+    pub fn quantity(&self, direction: Int) -> Result<Int, i64> {
+        let quantity = self.quantity_in_01(direction)?;
+        if self.available != 0 && self.available != 1 {
+            return Err(12);
+        }
+        if self.offer > 10_000_000 || self.bid > 10_000_000 {
+            return Err(18);
+        }
+        // "The contracted quantity is zero in the low direction when the offer energy is zero, and in the high direction when
+        // the bid energy is zero."
+        let none = match direction {
+            1 => self.offer == 0,
+            _ => self.bid == 0,
+        };
+        // "An unavailable unit also has quantity zero." "Otherwise it is the smaller of capability and limit, as in 01."
+        if none || self.available == 0 {
+            Ok(0)
+        } else {
+            Ok(quantity)
+        }
+    }
 }
 
 // Report

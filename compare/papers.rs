@@ -2,7 +2,7 @@
 //! and the tables of documents 000 and 003 as they are printed, held to the model and compared.
 
 use crate::host;
-use crate::model::{self, containment, regulation, Direction, Int, Levels, Terms, RATES};
+use crate::model::{self, containment, regulation, Direction, Int, Levels, Terms, Unit, RATES};
 use crate::tally::{printed, Tally};
 use crate::trace::{Runs, Script};
 
@@ -109,6 +109,36 @@ fn terms(tally: &mut Tally) {
     printed("import limit 47,999", -2, host::terms(TOPIC, &short, tally));
 }
 
+/// The quantity of an available unit with energy for offers and for bids, and the zeros of 02, No. 6: "zero in the low direction
+/// when the offer energy is zero, and in the high direction when the bid energy is zero"; "an unavailable unit also has quantity
+/// zero". The other direction's energy changes nothing.
+fn contracted(direction: u32, unit: &Unit, tally: &mut Tally) -> i64 {
+    let mut with = |available: Int, own: Int, other: Int| {
+        let (offer, bid) = match direction {
+            1 => (own, other),
+            _ => (other, own),
+        };
+        let unit = Unit {
+            available,
+            offer,
+            bid,
+            ..unit.clone()
+        };
+        host::quantity(TOPIC, direction, &unit, tally)
+    };
+    let quantity = with(1, 1, 1);
+    printed(
+        "energies at their limit",
+        quantity,
+        with(1, 10_000_000, 10_000_000),
+    );
+    printed("no energy for the other direction", quantity, with(1, 1, 0));
+    printed("no energy", 0, with(1, 0, 1));
+    printed("no energy for either", 0, with(1, 0, 0));
+    printed("unavailable", 0, with(0, 1, 1));
+    quantity
+}
+
 /// 003, appendix 2, in kW; the last room by paper 01: "room 170 gives 100. 003 prints 80, against its rule".
 fn quantity(tally: &mut Tally) {
     let low = [(0, 0), (10_000, 9_000), (50_000, 25_000), (100_000, 40_000)];
@@ -125,22 +155,15 @@ fn quantity(tally: &mut Tally) {
         (2, [-100, 0, 0, 100, 70], 170, 100),
     ];
     for (direction, levels, room, quantity) in examples {
-        let [mil, sil, sel, mel, ol] = levels.map(|mw: Int| mw * 1_000);
-        let levels = Levels {
-            mil,
-            sil,
-            sel,
-            mel,
-            ol,
-        };
+        let levels = levels_of(levels.map(|mw: Int| mw * 1_000));
         let (found, points) = if direction == 1 {
-            (levels.headroom(), host::bytes_of(&low))
+            (levels.headroom(), low.to_vec())
         } else {
-            (levels.footroom(), host::bytes_of(&high))
+            (levels.footroom(), high.to_vec())
         };
         printed("room", room * 1_000, found);
-        let contracted = host::quantity(TOPIC, direction, &levels, &points, 4_000_000, tally);
-        printed("quantity", quantity * 1_000, contracted);
+        let found = contracted(direction, &unit_of(levels, points), tally);
+        printed("quantity", quantity * 1_000, found);
     }
     // 003, appendix 1: the rooms that its text gives, at levels that lead to them (its figures are not in the text); SEL and
     // SIL are 0 in the first two.
@@ -150,18 +173,33 @@ fn quantity(tally: &mut Tally) {
         ([-80, -30, 30, 70, 50], 20, 20),
         ([-60, -30, 30, 70, -30], 0, 30),
     ];
-    for ([mil, sil, sel, mel, ol], headroom, footroom) in rooms {
-        let levels = Levels {
-            mil,
-            sil,
-            sel,
-            mel,
-            ol,
-        };
-        let equal = host::bytes_of(&[(0, 0), (1, 1)]);
-        let low = host::quantity(TOPIC, 1, &levels, &equal, 4_000_000, tally);
-        let high = host::quantity(TOPIC, 2, &levels, &equal, 4_000_000, tally);
-        printed("rooms", (headroom, footroom), (low, high));
+    for (levels, headroom, footroom) in rooms {
+        let unit = unit_of(levels_of(levels), vec![(0, 0), (1, 1)]);
+        let found = (contracted(1, &unit, tally), contracted(2, &unit, tally));
+        printed("rooms", (headroom, footroom), found);
+    }
+}
+
+/// MIL, SIL, SEL, MEL and OL.
+fn levels_of([mil, sil, sel, mel, ol]: [Int; 5]) -> Levels {
+    Levels {
+        mil,
+        sil,
+        sel,
+        mel,
+        ol,
+    }
+}
+
+/// An available unit with energy and a limit that is not smaller than any capability.
+fn unit_of(levels: Levels, points: Vec<(Int, Int)>) -> Unit {
+    Unit {
+        available: 1,
+        offer: 1,
+        bid: 1,
+        levels,
+        points,
+        limit: 4_000_000,
     }
 }
 

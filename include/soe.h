@@ -8,12 +8,13 @@
  * output is written. The caller sees to it that a pointer is not null, also where its length is 0, that it leads to as many
  * bytes as its length says, and that an output overlaps no other argument. Every other argument may have any value.
  *
- * Unsigned numbers: quantities, direction, submitted limit, event, available and armed are uint32_t, and times uint64_t, so that
- * none below 0 can be handed in. A host that holds one in a signed or wider type compares it with 0 and the greatest number of
- * the parameter's type before the call and refuses it itself, since C converts it without a warning. An int32_t below 0 becomes a
- * number above 2,147,483,647: soe_terms refuses that as a quantity with -1, soe_quantity as a direction or a limit with -12, and
- * soe_instruction as an event or a start's available or armed with -13; its limit may be any number. An int64_t below 0 becomes
- * a time far ahead, and every event after it would be refused with -15. */
+ * Unsigned numbers: quantities, direction, energies, submitted limit, event, available and armed are uint32_t, and times
+ * uint64_t, so that none below 0 can be handed in. A host that holds one in a signed or wider type compares it with 0 and the
+ * greatest number of the parameter's type before the call and refuses it itself, since C converts it without a warning. An int32_t
+ * below 0 becomes a number above 2,147,483,647: soe_terms refuses that as a quantity with -1; soe_quantity as a direction, available
+ * or limit with -12 and as an energy with -18; and soe_instruction as an event or a start's available or armed with -13 and as a
+ * start's energy with -17; its limit may be any number. An int64_t below 0 becomes a time far ahead, and every event after it would
+ * be refused with -15. */
 #ifndef SOE_H
 #define SOE_H
 
@@ -56,18 +57,22 @@ int64_t soe_terms(uint32_t low_dc, uint32_t low_dm, uint32_t low_dr,
                   uint32_t high_dc, uint32_t high_dm, uint32_t high_dr,
                   int64_t export_limit, int64_t import_limit);
 
-/* The contracted quantity of a unit in one direction (1 low, by headroom; 2 high, by footroom), in kW: the smaller of its
- * response capability and the submitted limit. MIL, SIL, SEL and MEL are the maximum and stable import limits and the stable and
- * maximum export limits, OL is the operating level. `points` holds 2 to 5 points, each its room and its capability as two
- * little-endian unsigned 32-bit numbers: 16, 24, 32 or 40 bytes.
+/* The contracted quantity of a unit in one direction (1 low, by headroom; 2 high, by footroom), in kW. It is zero where the unit
+ * is not available (1 yes, 0 no), in the low direction where its remaining deliverable energy for offers is 0, and in the high one
+ * where that for bids is 0, both in kWh; otherwise it is the smaller of its response capability and the submitted limit. MIL, SIL,
+ * SEL and MEL are the maximum and stable import limits and the stable and maximum export limits, OL is the operating level.
+ * `points` holds 2 to 5 points, each its room and its capability as two little-endian unsigned 32-bit numbers: 16, 24, 32 or 40
+ * bytes.
  *
  * 0 to 4,000,000: the quantity.
  *
- * Refusal:
- *   -12  the direction is neither 1 nor 2; MIL <= SIL <= 0 <= SEL <= MEL or MIL <= OL <= MEL does not hold; one of the five is
- *        outside -2,000,000 to 2,000,000; the points have another length, a number above 4,000,000, a first room other than 0,
- *        rooms that do not rise or capabilities that fall; or the limit is above 4,000,000 */
-int64_t soe_quantity(uint32_t direction, int64_t mil, int64_t sil, int64_t sel, int64_t mel, int64_t ol,
+ * Refusals:
+ *   -12  the direction is neither 1 nor 2; available is neither 0 nor 1; MIL <= SIL <= 0 <= SEL <= MEL or MIL <= OL <= MEL does not
+ *        hold; one of the five is outside -2,000,000 to 2,000,000; the points have another length, a number above 4,000,000, a
+ *        first room other than 0, rooms that do not rise or capabilities that fall; or the limit is above 4,000,000
+ *   -18  the offer energy or the bid energy is above 10,000,000, whatever the direction */
+int64_t soe_quantity(uint32_t direction, uint32_t available, uint32_t offer, uint32_t bid,
+                     int64_t mil, int64_t sil, int64_t sel, int64_t mel, int64_t ol,
                      const uint8_t *points, size_t points_length, uint32_t limit);
 
 /* The bytes of a machine that follows one direction's start and cease instructions, and its states. */
@@ -90,8 +95,9 @@ int64_t soe_quantity(uint32_t direction, int64_t mil, int64_t sil, int64_t sel, 
  * pending instruction, of 64 bits. While nothing is pending, accepted, issue and start or cease time are 0.
  *
  * Times are whole seconds, any number. `time` is that of the event, which for a start or cease is its issue; `at` is the start or
- * cease time; a start has the submitted limit, and whether the unit is available and armed (1 yes, 0 no). What an event does not
- * have is not looked at: hand in 0.
+ * cease time; a start has the submitted limit, whether the unit is available and armed (1 yes, 0 no), and its remaining deliverable
+ * energy in kWh, for offers in the low direction and for bids in the high one. What an event does not have is not looked at: hand
+ * in 0. The machine does not keep the energy.
  *
  * Before the event, and again after it, what is due by its time happens: an instruction unanswered more than 120 after its issue
  * is rejected, which is idle for a start and delivering for a cease; an accepted start delivers from its start time, and an
@@ -104,10 +110,11 @@ int64_t soe_quantity(uint32_t direction, int64_t mil, int64_t sil, int64_t sel, 
  *        armed is neither 0 nor 1
  *   -15  the event is earlier than the last one
  *   -16  the start or cease time is under 120 after its issue
- *   -17  a start of a direction that is not idle, or with limit 0, or of a unit that is not available or not armed; a cease of a
- *        direction that is not delivering; or an answer where no instruction is unanswered */
+ *   -17  a start of a direction that is not idle, or with limit 0, or of a unit that is not available or not armed, or with an
+ *        energy of 0 or above 10,000,000; a cease of a direction that is not delivering; or an answer where no instruction is
+ *        unanswered */
 int64_t soe_instruction(uint8_t *machine, size_t machine_length, uint32_t event, uint64_t time, uint64_t at,
-                        uint32_t limit, uint32_t available, uint32_t armed);
+                        uint32_t limit, uint32_t available, uint32_t armed, uint32_t energy);
 
 #ifdef __cplusplus
 }

@@ -1,7 +1,7 @@
--- Paper 01, "Capability": rooms, points and the contracted quantity, in kW. Assumes nothing.
+-- Paper 01, "Capability": rooms and points, in kW. Assumes nothing.
 use mathlib.Core.Bool.{Bool, false, not, cond, _&&_, _||_}
 use mathlib.Core.List.{List, [], _∷_}
-use Prim.Native.Nat.{ℕ, _≤_, _<_, min}
+use Prim.Native.Nat.{ℕ, _≤_, _<_}
 use lib.Dec.{leb, ltb, eqb}
 use lib.IntN.{ℤ, pos, negℤ, _-ℤ_}
 use lib.ListN.{take}
@@ -106,13 +106,6 @@ roomAnswer direction l =
 unfoldable pub capabilityAnswer : Points → ℕ → Answer ℕ
 capabilityAnswer ps room =
     checked (cause 12 (not (pointsRule ps && leb room 4000000)) ∷ []) (capabilityOf ps room)
-
--- contracted quantity: the smaller of capability and the submitted limit (0 to 4,000,000)
-unfoldable pub quantityAnswer : ℕ → Limits → Points → ℕ → Answer ℕ
-quantityAnswer direction l ps limit =
-    checked
-    (cause 12 (not (directionRule direction && limitsRule l && pointsRule ps && leb limit 4000000)) ∷ [])
-    (min (capabilityOf ps (roomOf direction l)) limit)
 
 -- the number, or the power in kW, of each case of the code's answer
 abbrev pub answerOf : CapabilityAnswer → Answer ℕ

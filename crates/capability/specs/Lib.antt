@@ -1,1 +1,2 @@
 pub mod Capability
+pub mod Quantity

@@ -10,7 +10,8 @@ ghost use Rattle.common.specs.Lists.{every};
 ghost use Rattle.signed.specs.Sign.{above};
 ghost use Rattle.capability.specs.Capability.{inRange, limitsRule, wholeRange, headroom, footroom, directionRule, roomOf};
 ghost use Rattle.capability.specs.Capability.{pointInRange, rises, pointsRule, Segment, line, capabilityOf};
-ghost use Rattle.capability.specs.Capability.{answerOf, roomAnswer, capabilityAnswer, quantityAnswer};
+ghost use Rattle.capability.specs.Capability.{answerOf, roomAnswer, capabilityAnswer};
+ghost use Rattle.capability.specs.Quantity.{capabilityOrLimit, dataRule, energiesRule, energyOf, quantityAnswer, answerOfQuantity};
 
 // Maximum and stable import limits, stable and maximum export limits, operating level.
 pub struct Limits {
@@ -33,10 +34,25 @@ pub struct Points {
 }
 
 pub enum CapabilityAnswer {
-    // A room, a capability or a contracted quantity.
+    // A room or a capability.
     Power(u64),
     // Refusal 12: data break their rule.
     Data,
+}
+
+// A unit's remaining deliverable energy for offers and for bids, in kWh.
+pub struct Energies {
+    pub offer: u32,
+    pub bid: u32,
+}
+
+pub enum QuantityAnswer {
+    // The contracted quantity.
+    Quantity(u64),
+    // Refusal 12: another direction or availability, or data that break their rule.
+    Data,
+    // Refusal 18: an energy above its limit.
+    Energy,
 }
 
 fn in_range(z: i64) -> bool
@@ -230,17 +246,59 @@ pub fn capability(points: Points, room: u32) -> CapabilityAnswer
     CapabilityAnswer::Power(capability_of(points, room))
 }
 
-// The smaller of capability and submitted limit.
-pub fn quantity(direction: u32, limits: Limits, points: Points, limit: u32) -> CapabilityAnswer
-    ensures { λ r. ⌜ answerOf r ≡ quantityAnswer direction limits points limit ⌝ }
+// ---- the contracted quantity
+
+// What 01 asks of the data.
+fn data_hold(direction: u32, l: Limits, ps: Points, limit: u32) -> bool
+    ensures { λ r. ⌜ r ≡ dataRule direction l ps limit ⌝ }
 {
-    let good = direction_holds(direction)
-        & limits_hold(limits)
-        & points_hold(points)
-        & (limit <= 4_000_000);
-    if !good {
-        return CapabilityAnswer::Data;
+    direction_holds(direction) & limits_hold(l) & points_hold(ps) & (limit <= 4_000_000)
+}
+
+fn capability_or_limit(direction: u32, l: Limits, ps: Points, limit: u32) -> u64
+    requires { ⌜ dataRule direction l ps limit ≡ true ⌝ }
+    ensures { λ r. ⌜ r ≡ capabilityOrLimit direction l ps limit ⌝ }
+{
+    let room = room_of(direction, l) as u32;
+    common::smaller(capability_of(ps, room), limit as u64)
+}
+
+fn energies_hold(e: Energies) -> bool
+    ensures { λ r. ⌜ r ≡ energiesRule e ⌝ }
+{
+    (e.offer <= 10_000_000) & (e.bid <= 10_000_000)
+}
+
+// The offer energy in direction 1, the bid energy in direction 2.
+fn energy_of(direction: u32, e: Energies) -> u32
+    ensures { λ r. ⌜ r ≡ energyOf direction e ⌝ }
+{
+    if direction == 1 {
+        return e.offer;
     }
-    let room = room_of(direction, limits) as u32;
-    CapabilityAnswer::Power(common::smaller(capability_of(points, room), limit as u64))
+    e.bid
+}
+
+// The smaller of capability and submitted limit for a unit that is available and has energy in that direction, else 0.
+pub fn quantity(
+    direction: u32,
+    available: u32,
+    energies: Energies,
+    limits: Limits,
+    points: Points,
+    limit: u32,
+) -> QuantityAnswer
+    ensures { λ r. ⌜ answerOfQuantity r ≡ quantityAnswer direction available energies limits points limit ⌝ }
+{
+    let good = data_hold(direction, limits, points, limit) & (available <= 1);
+    if !good {
+        return QuantityAnswer::Data;
+    }
+    if !energies_hold(energies) {
+        return QuantityAnswer::Energy;
+    }
+    if (available == 0) | (energy_of(direction, energies) == 0) {
+        return QuantityAnswer::Quantity(0);
+    }
+    QuantityAnswer::Quantity(capability_or_limit(direction, limits, points, limit))
 }

@@ -1,8 +1,11 @@
-// The examples of document 003 in kW: of appendix 1 headroom and footroom at each time, of appendix 2 room and capability.
+// The examples of document 003 in kW, one a line: of appendix 1 headroom and footroom at each time, of appendix 2 room and
+// capability. Then the contracted quantities of 02, No. 6, four for a direction.
 use capability::CapabilityAnswer;
+use capability::Energies;
 use capability::Limits;
 use capability::Point;
 use capability::Points;
+use capability::QuantityAnswer;
 use libc::STDOUT_FILENO;
 
 // A number right-justified in nine columns.
@@ -16,13 +19,17 @@ fn write_number(n: u64) {
     io::write_all(STDOUT_FILENO, &digits[..count]);
 }
 
+fn write_refused() {
+    io::write_all(STDOUT_FILENO, b"  refused");
+}
+
 fn write_answer(answer: CapabilityAnswer) {
     match answer {
         CapabilityAnswer::Power(kw) => {
             write_number(kw);
         }
         CapabilityAnswer::Data => {
-            io::write_all(STDOUT_FILENO, b"  refused");
+            write_refused();
         }
     }
 }
@@ -41,9 +48,47 @@ fn point(room: u32, capability: u32) -> Point {
     Point { room, capability }
 }
 
+// With a limit that no capability of the examples reaches.
+fn write_quantity(
+    direction: u32,
+    available: u32,
+    offer: u32,
+    bid: u32,
+    l: Limits,
+    points: Points,
+) {
+    let energies = Energies { offer, bid };
+    let answer = capability::quantity(direction, available, energies, l, points, 4_000_000);
+    match answer {
+        QuantityAnswer::Quantity(kw) => {
+            write_number(kw);
+        }
+        QuantityAnswer::Data => {
+            write_refused();
+        }
+        QuantityAnswer::Energy => {
+            write_refused();
+        }
+    }
+}
+
+// With energy for offers and for bids, with none for offers, with none for bids, and of a unit that is not available.
+fn write_quantities(direction: u32, l: Limits, points: Points) {
+    write_quantity(direction, 1, 1, 1, l, points);
+    write_quantity(direction, 1, 0, 1, l, points);
+    write_quantity(direction, 1, 1, 0, l, points);
+    write_quantity(direction, 0, 1, 1, l, points);
+}
+
+// Both rooms, and the quantities low and high of a unit whose capability is its room.
 fn write_rooms(l: Limits) {
+    let blank = point(0, 0);
+    let points = [blank, point(4_000_000, 4_000_000), blank, blank, blank];
+    let equal = Points { count: 2, points };
     write_answer(capability::room(1, l));
     write_answer(capability::room(2, l));
+    write_quantities(1, l, equal);
+    write_quantities(2, l, equal);
     io::write_all(STDOUT_FILENO, b"\n");
 }
 
@@ -58,6 +103,7 @@ fn write_capability(direction: u32, l: Limits, points: Points) {
         }
         CapabilityAnswer::Data => {}
     }
+    write_quantities(direction, l, points);
     io::write_all(STDOUT_FILENO, b"\n");
 }
 

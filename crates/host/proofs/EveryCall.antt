@@ -13,13 +13,14 @@ use Rattle.common.proofs.Tests.{both-true}
 use Rattle.instructions.specs.declared.State.{State}
 use Rattle.instructions.specs.declared.State.the-variants.{Idle, StartPending, Delivering, CeasePending}
 use Rattle.instructions.specs.declared.Machine.{Machine}
+use Rattle.instructions.specs.declared.Conditions.{Conditions}
 use Rattle.instructions.specs.declared.Action.the-variants.{Start, Cease, Accept, Reject, Tick}
 use Rattle.instructions.specs.Instructions.{fresh, accepted, rejected, dueBy, acted, following}
 use Rattle.instructions.specs.EveryList.{after, run}
 use Rattle.instructions.proofs.Due.{Rests, rejected-rests, by-due}
 use Rattle.instructions.proofs.Steps.{Step, left, done, steps}
 use Rattle.host.specs.MachineBytes.{stateFields, fieldsOf, machineBytes, machineRule, machineIn, TimesFit}
-use Rattle.host.specs.Instruction.{Call, actionOf, isEvent, eventOf, inBytes, instructing, machineAfter}
+use Rattle.host.specs.Instruction.{Call, actionOf, isEvent, conditionsOf, eventOf, inBytes, instructing, machineAfter}
 use Rattle.host.specs.EveryCall.{callFits, bytesAfter, eventsOf, BytesFollow}
 use Rattle.host.proofs.Instructing.{not-good, is-followed}
 use Rattle.host.proofs.MachineBytes.{machine-back, zeros-fresh}
@@ -49,11 +50,11 @@ module _ (t : ℕ) (h : t < 2 ^ 64) where
   accepted-fits Delivering f = f
   accepted-fits (CeasePending p) f = record { last = h; issue = f .issue; at = f .at }
 
-  acted-fits : (event at limit available armed : ℕ) → at < 2 ^ 64 → (s : State) → PendingFits s → PendingFits (acted t (actionOf event at limit available armed) s)
+  acted-fits : (event at : ℕ) (conditions : Conditions) → at < 2 ^ 64 → (s : State) → PendingFits s → PendingFits (acted t (actionOf event at conditions) s)
   unfolding actionOf
-  acted-fits event at limit available armed k s f = by (eqb event 1) (eqb event 2) (eqb event 3) (eqb event 4)
+  acted-fits event at conditions k s f = by (eqb event 1) (eqb event 2) (eqb event 3) (eqb event 4)
     where
-      by : (v w x y : Bool) → PendingFits (acted t (cond v (Start at limit (eqb available 1) (eqb armed 1)) (cond w (Cease at) (cond x Accept (cond y Reject Tick)))) s)
+      by : (v w x y : Bool) → PendingFits (acted t (cond v (Start at conditions) (cond w (Cease at) (cond x Accept (cond y Reject Tick)))) s)
       by true w x y = record { last = h; issue = h; at = k }
       by false true x y = record { last = h; issue = h; at = k }
       by false false true y = accepted-fits s f
@@ -100,7 +101,7 @@ module _ (m : Machine) (f : Fits m) (c : Call) where
         let before = by-due t (PendingFits t h) (rests-fits t h) (m .state) (later-fits t h (m .state) (m .last) f) in
         rw to
         (by-due t (PendingFits t h) (rests-fits t h) (acted t (eventOf c .action) (dueBy t (m .state)))
-        (acted-fits t h (c .event) (c .at) (c .limit) (c .available) (c .armed) (times .1) (dueBy t (m .state)) before))
+        (acted-fits t h (c .event) (c .at) (conditionsOf c) (times .1) (dueBy t (m .state)) before))
 
     call-fits : Fits followed
     call-fits = by (isEvent c)

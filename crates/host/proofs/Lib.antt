@@ -2,4 +2,3 @@ pub mod EveryCall
 pub mod Instructing
 pub mod MachineBytes
 pub mod Numbers
-pub mod Quantities

@@ -1,10 +1,11 @@
--- Paper 02, No. 2: following an event from C, the machine in 32 bytes and the event in numbers. Assumes nothing.
+-- Paper 02, No. 2 and No. 6: following an event from C, the machine in 32 bytes and the event in numbers. Assumes nothing.
 use mathlib.Core.Bool.{Bool, not, cond, _&&_, _||_}
 use mathlib.Core.List.{List}
 use Prim.Native.Nat.{ℕ}
 use lib.Dec.{leb, eqb}
 use Rattle.common.specs.Answer.{Answer, refused, given, orBlank}
 use Rattle.instructions.specs.declared.Machine.{Machine}
+use Rattle.instructions.specs.declared.Conditions.{Conditions}
 use Rattle.instructions.specs.declared.Action.{Action}
 use Rattle.instructions.specs.declared.Action.the-variants.{Start, Cease, Accept, Reject, Tick}
 use Rattle.instructions.specs.declared.Event.{Event}
@@ -19,19 +20,20 @@ pub record Call : Type 0 where
   pub limit : ℕ
   pub available : ℕ
   pub armed : ℕ
+  pub energy : ℕ
 
-abbrev pub callOf : ℕ → ℕ → ℕ → ℕ → ℕ → ℕ → Call
-callOf event time at limit available armed =
-    record { event = event; time = time; at = at; limit = limit; available = available; armed = armed }
+abbrev pub callOf : ℕ → ℕ → ℕ → ℕ → ℕ → ℕ → ℕ → Call
+callOf event time at limit available armed energy =
+    record { event = event; time = time; at = at; limit = limit; available = available; armed = armed; energy = energy }
 
 -- the event is 1 to 5, and a start's available and armed are each 0 or 1
 abbrev pub callRule : ℕ → ℕ → ℕ → Bool
 callRule event available armed = leb 1 event && leb event 5 && (not (eqb event 1) || leb available 1 && leb armed 1)
 
 -- 1 start, 2 cease, 3 accept, 4 reject, 5 tick
-unfoldable pub actionOf : ℕ → ℕ → ℕ → ℕ → ℕ → Action
-actionOf event at limit available armed =
-    cond (eqb event 1) (Start at limit (eqb available 1) (eqb armed 1))
+unfoldable pub actionOf : ℕ → ℕ → Conditions → Action
+actionOf event at conditions =
+    cond (eqb event 1) (Start at conditions)
     (cond (eqb event 2) (Cease at)
     (cond (eqb event 3) Accept
     (cond (eqb event 4) Reject
@@ -40,8 +42,12 @@ actionOf event at limit available armed =
 abbrev pub isEvent : Call → Bool
 isEvent c = callRule (c .event) (c .available) (c .armed)
 
+-- looked at only by a start
+abbrev pub conditionsOf : Call → Conditions
+conditionsOf c = record { limit = c .limit; available = eqb (c .available) 1; armed = eqb (c .armed) 1; energy = c .energy }
+
 abbrev pub eventOf : Call → Event
-eventOf c = record { time = c .time; action = actionOf (c .event) (c .at) (c .limit) (c .available) (c .armed) }
+eventOf c = record { time = c .time; action = actionOf (c .event) (c .at) (conditionsOf c) }
 
 -- the bytes of the machine afterwards
 abbrev pub inBytes : Answer Machine → Answer (List ℕ)

@@ -4,6 +4,7 @@ use mathlib.Core.Bool.{Bool, true, false, not, _&&_, _||_, and-true, and-false, 
 use mathlib.Core.List.{List, [], _∷_, _++_}
 use Prim.Native.Nat.{ℕ, _+_}
 use lib.Dec.{leb}
+use Rattle.instructions.specs.declared.Conditions.{Conditions}
 use Rattle.instructions.specs.declared.Action.{Action}
 use Rattle.instructions.specs.declared.Action.the-variants.{Start, Cease, Accept}
 use Rattle.instructions.specs.declared.Event.{Event}
@@ -38,9 +39,9 @@ module _ (u issue t : ℕ) where
   next-both a other i [] = rw other
   next-both a other i (x ∷ events) = refl
 
-  module _ (at limit : ℕ) (available armed : Bool) where
+  module _ (at : ℕ) (conditions : Conditions) where
     abbrev start : Action
-    start = Start at limit available armed
+    start = Start at conditions
 
     ceased-start : (events : List Event) → ceased u (events ++ both start) ≡ ceased u events
     unfolding ceased

@@ -11,10 +11,11 @@ use Rattle.common.proofs.Tests.{both-true, by-test}
 use Rattle.instructions.specs.declared.Pending.{Pending}
 use Rattle.instructions.specs.declared.State.{State}
 use Rattle.instructions.specs.declared.State.the-variants.{Idle, StartPending, Delivering, CeasePending}
+use Rattle.instructions.specs.declared.Conditions.{Conditions}
 use Rattle.instructions.specs.declared.Action.{Action}
 use Rattle.instructions.specs.declared.Action.the-variants.{Start, Cease, Accept, Reject, Tick}
 use Rattle.instructions.specs.declared.Event.{Event}
-use Rattle.instructions.specs.Instructions.{issued, acceptance, rejected, late, dueBy, idle, suits, acted}
+use Rattle.instructions.specs.Instructions.{issued, acceptance, rejected, late, dueBy, idle, conditionsMet, suits, acted}
 use Rattle.instructions.specs.EveryList.{isTick, NothingDue, delivers, isAcceptance, onAcceptedStart}
 use Rattle.instructions.proofs.Due.{Pends, Rests, rejected-rests, rests-stays, unanswered-by, accepted-by, by-due, due-twice}
 use Rattle.instructions.proofs.Steps.{noted}
@@ -26,14 +27,12 @@ pub record Last (h : List Event) (e : Event) : Type 0 where
   pub former : List Event
   pub listed : h ≡ former ++ (e ∷ [])
 
-abbrev start : Pending → ℕ → Bool → Bool → Event
-start p limit available armed = record { time = p .issue; action = Start (p .at) limit available armed }
+abbrev start : Pending → Conditions → Event
+start p conditions = record { time = p .issue; action = Start (p .at) conditions }
 
 pub record StartLast (h : List Event) (p : Pending) : Type 0 where
-  pub limit : ℕ
-  pub available : Bool
-  pub armed : Bool
-  pub is : Last h (start p limit available armed)
+  pub conditions : Conditions
+  pub is : Last h (start p conditions)
 
 abbrev cease : Pending → Event
 cease p = record { time = p .issue; action = Cease (p .at) }
@@ -116,14 +115,14 @@ module _ (h : List Event) (t : ℕ) where
     accepted-start : Known h t (StartPending p) → Known (happens Accept) t (StartPending (acceptance p))
     accepted-start k =
         let w = k .waiting a in
-        let i = start p (w .limit) (w .available) (w .armed) in
+        let i = start p (w .conditions) in
         record {
           waiting = λ e. absurd (true≢false e);
           by-later = λ u l.
               rw (
                 start-delivers u p,
                 with-it i (w .is),
-                start-accepted u (p .issue) t (p .at) (w .limit) (w .available) (w .armed) (w .is .former),
+                start-accepted u (p .issue) t (p .at) (w .conditions) (w .is .former),
                 before-it (StartPending p) (inl refl) k i refl (w .is) u l,
                 le-leb t (p .issue + 120) within,
               )
@@ -151,15 +150,15 @@ module _ (h : List Event) (t : ℕ) where
       other-known Reject s (rejected s) refl refl k (rests-waiting (happens Reject) (rejected s) (rejected-rests s))
       (λ u. ap delivers (rests-stays u (rejected s) (rejected-rests s)) ∙ rejected-delivers s ∙ sym (unanswered-same u p s q a))
 
-  started : (at limit : ℕ) (available armed : Bool) (s : State) → Known h t s → idle s ≡ true
-      → Known (happens (Start at limit available armed)) t (StartPending (issued t at))
-  started at limit available armed Idle k i =
-      other-known (Start at limit available armed) Idle (StartPending (issued t at)) refl refl k
-      (λ _. record { limit = limit; available = available; armed = armed; is = record { former = h; listed = refl } })
+  started : (at : ℕ) (conditions : Conditions) (s : State) → Known h t s → idle s ≡ true
+      → Known (happens (Start at conditions)) t (StartPending (issued t at))
+  started at conditions Idle k i =
+      other-known (Start at conditions) Idle (StartPending (issued t at)) refl refl k
+      (λ _. record { conditions = conditions; is = record { former = h; listed = refl } })
       (λ u. unanswered-same u (issued t at) (StartPending (issued t at)) (inl refl) refl ∙ sym (ap delivers (rests-stays u Idle (inl refl))))
-  started at limit available armed (StartPending p) k i = absurd (false≢true i)
-  started at limit available armed Delivering k i = absurd (false≢true i)
-  started at limit available armed (CeasePending p) k i = absurd (false≢true i)
+  started at conditions (StartPending p) k i = absurd (false≢true i)
+  started at conditions Delivering k i = absurd (false≢true i)
+  started at conditions (CeasePending p) k i = absurd (false≢true i)
 
   ceasing : (at : ℕ) → Known h t Delivering → Known (happens (Cease at)) t (CeasePending (issued t at))
   ceasing at k =
@@ -167,7 +166,7 @@ module _ (h : List Event) (t : ℕ) where
       (λ u. unanswered-same u (issued t at) (CeasePending (issued t at)) (inr refl) refl ∙ sym (ap delivers (rests-stays u Delivering (inr refl))))
 
   pub act-known : (a : Action) (s : State) → Known h t s → NothingDue t s → suits a s ≡ true → Known (happens a) t (acted t a s)
-  act-known (Start at limit available armed) s k n e = started at limit available armed s k (both-true (ltb 0 limit && available && armed) (idle s) e .1)
+  act-known (Start at conditions) s k n e = started at conditions s k (both-true (conditionsMet conditions) (idle s) e .1)
   act-known (Cease at) Delivering k n e = ceasing at k
   act-known (Cease at) Idle k n e = absurd (false≢true e)
   act-known (Cease at) (StartPending p) k n e = absurd (false≢true e)

@@ -29,7 +29,7 @@ abbrev pub run : Machine → List Event → Machine
 run m events = foldl after m events
 
 abbrev pub isTick : Action → Bool
-isTick (Start at limit available armed) = false
+isTick (Start at conditions) = false
 isTick (Cease at) = false
 isTick Accept = false
 isTick Reject = false
@@ -68,7 +68,7 @@ delivers (CeasePending p) = true
 
 -- a start whose time has come
 abbrev pub startBy : ℕ → Action → Bool
-startBy time (Start at limit available armed) = leb at time
+startBy time (Start at conditions) = leb at time
 startBy time (Cease at) = false
 startBy time Accept = false
 startBy time Reject = false
@@ -76,14 +76,14 @@ startBy time Tick = false
 
 -- a cease whose time has come
 abbrev pub ceaseBy : ℕ → Action → Bool
-ceaseBy time (Start at limit available armed) = false
+ceaseBy time (Start at conditions) = false
 ceaseBy time (Cease at) = leb at time
 ceaseBy time Accept = false
 ceaseBy time Reject = false
 ceaseBy time Tick = false
 
 abbrev pub isAcceptance : Action → Bool
-isAcceptance (Start at limit available armed) = false
+isAcceptance (Start at conditions) = false
 isAcceptance (Cease at) = false
 isAcceptance Accept = true
 isAcceptance Reject = false

@@ -1,4 +1,4 @@
--- Paper 02, No. 2: the machine that follows the start and cease instructions of one direction. Assumes nothing.
+-- Paper 02, No. 2: the machine that follows the start and cease instructions of one direction; No. 6: a start's energy. Assumes nothing.
 use mathlib.Core.Bool.{Bool, true, false, not, cond, _&&_}
 use mathlib.Core.List.{List, [], _∷_}
 use Prim.Native.Nat.{ℕ, _+_}
@@ -8,6 +8,7 @@ use Rattle.instructions.specs.declared.Pending.{Pending}
 use Rattle.instructions.specs.declared.State.{State}
 use Rattle.instructions.specs.declared.State.the-variants.{Idle, StartPending, Delivering, CeasePending}
 use Rattle.instructions.specs.declared.Machine.{Machine}
+use Rattle.instructions.specs.declared.Conditions.{Conditions}
 use Rattle.instructions.specs.declared.Action.{Action}
 use Rattle.instructions.specs.declared.Action.the-variants.{Start, Cease, Accept, Reject, Tick}
 use Rattle.instructions.specs.declared.Event.{Event}
@@ -74,7 +75,7 @@ soon issue at = ltb at (issue + 120)
 
 -- a start or cease time is at least 120 after its issue, which is the time of the event
 abbrev pub tooSoon : ℕ → Action → Bool
-tooSoon time (Start at limit available armed) = soon time at
+tooSoon time (Start at conditions) = soon time at
 tooSoon time (Cease at) = soon time at
 tooSoon time Accept = false
 tooSoon time Reject = false
@@ -99,10 +100,14 @@ unanswered (StartPending p) = not (p .accepted)
 unanswered Delivering = false
 unanswered (CeasePending p) = not (p .accepted)
 
--- a start needs a nonzero limit, a unit that is available and armed, and an idle direction; a cease needs a delivering one; an
--- answer needs an unanswered pending instruction
+-- a nonzero limit, a unit that is available and armed, and its direction's energy, which is 1 to 10,000,000 kWh
+abbrev pub conditionsMet : Conditions → Bool
+conditionsMet c = ltb 0 (c .limit) && c .available && c .armed && leb 1 (c .energy) && leb (c .energy) 10000000
+
+-- a start needs its conditions met and an idle direction; a cease needs a delivering one; an answer needs an unanswered pending
+-- instruction
 abbrev pub suits : Action → State → Bool
-suits (Start at limit available armed) s = ltb 0 limit && available && armed && idle s
+suits (Start at conditions) s = conditionsMet conditions && idle s
 suits (Cease at) s = delivering s
 suits Accept s = unanswered s
 suits Reject s = unanswered s
@@ -110,7 +115,7 @@ suits Tick s = true
 
 -- what an event at a time does to a state that it suits
 abbrev pub acted : ℕ → Action → State → State
-acted time (Start at limit available armed) s = StartPending (issued time at)
+acted time (Start at conditions) s = StartPending (issued time at)
 acted time (Cease at) s = CeasePending (issued time at)
 acted time Accept s = accepted s
 acted time Reject s = rejected s

@@ -1,7 +1,7 @@
 // Start and cease instructions of one direction: the machine that follows them.
 ghost use mathlib.Core.Path.{_≡_};
 ghost use Rattle.common.specs.Answer.{numberOf};
-ghost use Rattle.instructions.specs.Instructions.{fresh, acceptance, accepted, rejected, effective, late, pendingBy, dueBy, soon, tooSoon, idle, delivering, unanswered, suits, acted, following, answerOf};
+ghost use Rattle.instructions.specs.Instructions.{fresh, acceptance, accepted, rejected, effective, late, pendingBy, dueBy, soon, tooSoon, idle, delivering, unanswered, conditionsMet, suits, acted, following, answerOf};
 
 // An instruction that is pending: its issue, its start or cease time, and whether it was accepted.
 pub struct Pending {
@@ -23,12 +23,19 @@ pub struct Machine {
     pub last: u64,
 }
 
+// What a start says of the unit: its submitted limit, whether it is available and armed, and its energy for this direction in
+// kWh, for offers in the low one and for bids in the high one.
+pub struct Conditions {
+    pub limit: u32,
+    pub available: bool,
+    pub armed: bool,
+    pub energy: u32,
+}
+
 pub enum Action {
     Start {
         at: u64,
-        limit: u32,
-        available: bool,
-        armed: bool,
+        conditions: Conditions,
     },
     Cease {
         at: u64,
@@ -164,12 +171,7 @@ fn is_too_soon(time: u64, action: Action) -> bool
     ensures { λ r. ⌜ r ≡ tooSoon time action ⌝ }
 {
     match action {
-        Action::Start {
-            at,
-            limit: _,
-            available: _,
-            armed: _,
-        } => is_soon(time, at),
+        Action::Start { at, conditions: _ } => is_soon(time, at),
         Action::Cease { at } => is_soon(time, at),
         Action::Accept => false,
         Action::Reject => false,
@@ -210,16 +212,17 @@ fn is_unanswered(s: State) -> bool
     }
 }
 
+fn conditions_met(c: Conditions) -> bool
+    ensures { λ r. ⌜ r ≡ conditionsMet c ⌝ }
+{
+    (0 < c.limit) & c.available & c.armed & (1 <= c.energy) & (c.energy <= 10_000_000)
+}
+
 fn is_suited(action: Action, s: State) -> bool
     ensures { λ r. ⌜ r ≡ suits action s ⌝ }
 {
     match action {
-        Action::Start {
-            at: _,
-            limit,
-            available,
-            armed,
-        } => (0 < limit) & available & armed & is_idle(s),
+        Action::Start { at: _, conditions } => conditions_met(conditions) & is_idle(s),
         Action::Cease { at: _ } => is_delivering(s),
         Action::Accept => is_unanswered(s),
         Action::Reject => is_unanswered(s),
@@ -232,12 +235,7 @@ fn acted_state(time: u64, action: Action, s: State) -> State
     ensures { λ r. ⌜ r ≡ acted time action s ⌝ }
 {
     match action {
-        Action::Start {
-            at,
-            limit: _,
-            available: _,
-            armed: _,
-        } => State::StartPending(Pending {
+        Action::Start { at, conditions: _ } => State::StartPending(Pending {
             issue: time,
             at,
             accepted: false,

@@ -31,7 +31,7 @@ module _ (t : tie.After-is-call) where
   bytes = now (start .args .machine)
 
   abbrev call : Call
-  call = let a = start .args in callOf (a .event) (a .time) (a .at) (a .limit) (a .available) (a .armed)
+  call = let a = start .args in callOf (a .event) (a .time) (a .at) (a .limit) (a .available) (a .armed) (a .energy)
 
   tested : machineRule bytes && isEvent call ≡ t .before .fields-hold .result && t .is-call .result
   tested =
@@ -64,7 +64,7 @@ returns : tie.Need-returns
 returns c =
     let short = c .before in
     let a = short .before .before .args in
-    let e = not-good (now (a .machine)) (callOf (a .event) (a .time) (a .at) (a .limit) (a .available) (a .armed)) (rw (ne-eqb (length (now (a .machine))) 32 (short .if1 .taken))) in
+    let e = not-good (now (a .machine)) (callOf (a .event) (a .time) (a .at) (a .limit) (a .available) (a .armed) (a .energy)) (rw (ne-eqb (length (now (a .machine))) 32 (short .if1 .taken))) in
     (rw (toZ-ofZ {z = c .refusal .result} (sfits-of (c .refusal .ok)), c .refusal .ensures, e), rw e)
 
 fields-in-requires : tie.Need-fields-in-requires
