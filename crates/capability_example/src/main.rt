@@ -49,14 +49,7 @@ fn point(room: u32, capability: u32) -> Point {
 }
 
 // With a limit that no capability of the examples reaches.
-fn write_quantity(
-    direction: u32,
-    available: u32,
-    offer: u32,
-    bid: u32,
-    l: Limits,
-    points: Points,
-) {
+fn write_quantity(direction: u32, available: u32, offer: u32, bid: u32, l: Limits, points: Points) {
     let energies = Energies { offer, bid };
     let answer = capability::quantity(direction, available, energies, l, points, 4_000_000);
     match answer {

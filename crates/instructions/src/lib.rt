@@ -33,13 +33,8 @@ pub struct Conditions {
 }
 
 pub enum Action {
-    Start {
-        at: u64,
-        conditions: Conditions,
-    },
-    Cease {
-        at: u64,
-    },
+    Start { at: u64, conditions: Conditions },
+    Cease { at: u64 },
     Accept,
     Reject,
     Tick,

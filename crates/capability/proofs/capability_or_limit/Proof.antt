@@ -25,10 +25,16 @@ room-of-requires : tie.Need-room-of-requires
 room-of-requires c κs = search needs
 
 cast-room : tie.Need-cast-room
-cast-room c = search needs
+cast-room c =
+    let s = c .before in
+    let a = s .args in
+    omega (arith, room-most (a .l) (rules (a .direction) (a .l) (a .ps) (a .limit) (s .pre) .0) (a .direction))
 
 capability-of-requires : tie.Need-capability-of-requires
-capability-of-requires c κs = search needs
+capability-of-requires c κs =
+    let s = c .before in
+    let a = s .args in
+    rules (a .direction) (a .l) (a .ps) (a .limit) (s .pre) .1
 
 smaller-requires : tie.Need-smaller-requires
 smaller-requires c κs = search needs
