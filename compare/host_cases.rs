@@ -219,7 +219,7 @@ pub fn quantity(random: &mut Random, count: usize, tally: &mut Tally) {
         for _ in 0..random.below(3) {
             any_energies(random, &mut unit);
         }
-        for _ in 0..random.below(3) {
+        for _ in 0..random.pick(&[0, 0, 1, 2]) {
             match random.below(4) {
                 0 => break_levels(random, &mut unit.levels),
                 1 if !unit.points.is_empty() => break_points(random, &mut unit.points),
