@@ -1,6 +1,6 @@
 -- `quantity-laws`: the contracted quantity beside 01's. Assumes nothing.
 use mathlib.Core.Path.{_≡_}
-use mathlib.Core.Bool.{Bool, true, _&&_, _||_, and-true}
+use mathlib.Core.Bool.{Bool, true, _&&_, and-true}
 use mathlib.Core.List.{List}
 use Prim.Native.Nat.{ℕ, _≤_, _<_}
 use native.Mathlib.Omega.{arith}
@@ -12,7 +12,7 @@ use Rattle.common.proofs.Tests.{both-true, by-test}
 use Rattle.capability.specs.declared.Limits.{Limits}
 use Rattle.capability.specs.declared.Points.{Points}
 use Rattle.capability.specs.declared.Energies.{Energies}
-use Rattle.capability.specs.Quantity.{capabilityOrLimit, dataRule, availabilityRule, energiesRule, energyOf, quantityOf, quantityCauses, quantityAnswer, quantityIn01, QuantityLaws}
+use Rattle.capability.specs.Quantity.{capabilityOrLimit, dataRule, availabilityRule, energiesRule, energyOf, noQuantity, quantityOf, quantityCauses, quantityAnswer, quantityIn01, QuantityLaws}
 
 module _ (direction : ℕ) (l : Limits) (ps : Points) (limit : ℕ) where
   abbrev most : ℕ
@@ -47,7 +47,7 @@ module _ (direction : ℕ) (l : Limits) (ps : Points) (limit : ℕ) where
     unfolding quantityAnswer quantityOf
     kw-most =
         rw (← given-value causes (quantityOf direction available e l ps limit) kw h)
-        (by-test (λ (n : ℕ). n ≤ most) (eqb available 0 || eqb (energyOf direction e) 0) 0 most (λ _. omega arith) (λ _. omega arith))
+        (by-test (λ (n : ℕ). n ≤ most) (noQuantity direction available e) 0 most (λ _. omega arith) (λ _. omega arith))
 
     never-above : (quantityIn01 direction l ps limit ≡ given most) × (kw ≤ most)
     unfolding quantityIn01

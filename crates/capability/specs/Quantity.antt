@@ -36,10 +36,13 @@ energiesRule e = leb (e .offer) 10000000 && leb (e .bid) 10000000
 abbrev pub energyOf : ℕ → Energies → ℕ
 energyOf direction e = cond (eqb direction 1) (e .offer) (e .bid)
 
--- zero where the unit is unavailable or the direction's own energy is zero; otherwise as in 01
+-- the unit is unavailable, or the direction's own energy is zero
+abbrev pub noQuantity : ℕ → ℕ → Energies → Bool
+noQuantity direction available e = eqb available 0 || eqb (energyOf direction e) 0
+
+-- zero there; otherwise as in 01
 unfoldable pub quantityOf : ℕ → ℕ → Energies → Limits → Points → ℕ → ℕ
-quantityOf direction available e l ps limit =
-    cond (eqb available 0 || eqb (energyOf direction e) 0) 0 (capabilityOrLimit direction l ps limit)
+quantityOf direction available e l ps limit = cond (noQuantity direction available e) 0 (capabilityOrLimit direction l ps limit)
 
 -- 12: another direction or availability, or data that break their rule. 18: an energy above its limit.
 abbrev pub quantityCauses : ℕ → ℕ → Energies → Limits → Points → ℕ → List Cause

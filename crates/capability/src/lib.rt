@@ -11,7 +11,7 @@ ghost use Rattle.signed.specs.Sign.{above};
 ghost use Rattle.capability.specs.Capability.{inRange, limitsRule, wholeRange, headroom, footroom, directionRule, roomOf};
 ghost use Rattle.capability.specs.Capability.{pointInRange, rises, pointsRule, Segment, line, capabilityOf};
 ghost use Rattle.capability.specs.Capability.{answerOf, roomAnswer, capabilityAnswer};
-ghost use Rattle.capability.specs.Quantity.{capabilityOrLimit, dataRule, energiesRule, energyOf, quantityAnswer, answerOfQuantity};
+ghost use Rattle.capability.specs.Quantity.{capabilityOrLimit, dataRule, energiesRule, energyOf, noQuantity, quantityAnswer, answerOfQuantity};
 
 // Maximum and stable import limits, stable and maximum export limits, operating level.
 pub struct Limits {
@@ -279,6 +279,13 @@ fn energy_of(direction: u32, e: Energies) -> u32
     e.bid
 }
 
+// Not available, or without energy in that direction.
+fn no_quantity(direction: u32, available: u32, e: Energies) -> bool
+    ensures { λ r. ⌜ r ≡ noQuantity direction available e ⌝ }
+{
+    (available == 0) | (energy_of(direction, e) == 0)
+}
+
 // The smaller of capability and submitted limit for a unit that is available and has energy in that direction, else 0.
 pub fn quantity(
     direction: u32,
@@ -297,7 +304,7 @@ pub fn quantity(
     if !energies_hold(energies) {
         return QuantityAnswer::Energy;
     }
-    if (available == 0) | (energy_of(direction, energies) == 0) {
+    if no_quantity(direction, available, energies) {
         return QuantityAnswer::Quantity(0);
     }
     QuantityAnswer::Quantity(capability_or_limit(direction, limits, points, limit))

@@ -16,8 +16,7 @@ points-hold-requires c κs = search needs
 returns : tie.Need-returns
 unfolding dataRule
 returns c =
-    let p = c in
-    rw (p .before .before .direction-holds .ensures, p .before .limits-hold .ensures, p .points-hold .ensures)
+    rw (c .before .before .direction-holds .ensures, c .before .limits-hold .ensures, c .points-hold .ensures)
 
 pub data-hold-spec : {M : Type 1} → statement M
 data-hold-spec =

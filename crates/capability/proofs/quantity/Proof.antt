@@ -1,71 +1,101 @@
 -- `capability::quantity` meets its contract. Assumes nothing.
-use mathlib.Core.Path.{_≡_, sym, _∙_}
-use mathlib.Core.Bool.{true, cond, _||_}
+use mathlib.Core.Path.{_≡_, sym, ap, _∙_}
+use mathlib.Core.Bool.{Bool, true, false, _&&_}
+use Prim.Native.Nat.{ℕ}
 use borrow.Author.Needs.{needs}
-use borrow.Author.Tests.{not-false}
-use lib.Dec.{eqb}
-use Rattle.common.specs.Answer.{given}
+use borrow.Author.Tests.{not-true, not-false}
+use Rattle.common.specs.Answer.{Answer, refused, given}
 use Rattle.common.proofs.Tests.{both-true}
-use Rattle.capability.specs.Quantity.{capabilityOrLimit, dataRule, availabilityRule, quantityOf, quantityAnswer}
+use Rattle.capability.specs.Quantity.{capabilityOrLimit, dataRule, availabilityRule, energiesRule, noQuantity, quantityOf, quantityAnswer}
 use Rattle.capability.proofs.quantity.Statement.{statement}
 use Rattle.capability.proofs.quantity.Tie as tie
+
+-- ---- the answer by the tests that the code makes
+
+module _ (s : tie.Start) where
+  abbrev data-holds : Bool
+  data-holds = let a = s .args in dataRule (a .direction) (a .limits) (a .points) (a .limit)
+
+  abbrev available-holds : Bool
+  available-holds = availabilityRule (s .args .available)
+
+  abbrev energies-hold : Bool
+  energies-hold = energiesRule (s .args .energies)
+
+  abbrev none : Bool
+  none = let a = s .args in noQuantity (a .direction) (a .available) (a .energies)
+
+  abbrev most : ℕ
+  most = let a = s .args in capabilityOrLimit (a .direction) (a .limits) (a .points) (a .limit)
+
+  abbrev answer : Answer ℕ
+  answer = let a = s .args in quantityAnswer (a .direction) (a .available) (a .energies) (a .limits) (a .points) (a .limit)
+
+  bad-data : data-holds && available-holds ≡ false → answer ≡ refused 12
+  unfolding quantityAnswer
+  bad-data h = rw h
+
+  bad-energy : data-holds && available-holds ≡ true → energies-hold ≡ false → answer ≡ refused 18
+  unfolding quantityAnswer
+  bad-energy good h = rw (good, h)
+
+  zero : data-holds && available-holds ≡ true → energies-hold ≡ true → none ≡ true → answer ≡ given 0
+  unfolding quantityAnswer quantityOf
+  zero good limited h = rw (good, limited, h)
+
+  as-in-01 : data-holds && available-holds ≡ true → energies-hold ≡ true → none ≡ false → answer ≡ given most
+  unfolding quantityAnswer quantityOf
+  as-in-01 good limited h = rw (good, limited, h)
+
+-- ---- each return
 
 data-hold-requires : tie.Need-data-hold-requires
 data-hold-requires c κs = search needs
 
 returns : tie.Need-returns
-unfolding quantityAnswer
-returns c = rw (← c .before .data-hold .ensures, c .if1 .taken)
+returns c =
+    let s = c .before .before in
+    let held = c .before .data-hold in
+    sym (bad-data s (rw (← held .ensures) (not-true (held .result && available-holds s) (c .if1 .taken))))
+
+past-12 : (c : tie.Else1) → let s = c .before .before in data-holds s && available-holds s ≡ true
+past-12 c =
+    let held = c .before .data-hold in
+    rw (← held .ensures) (not-false (held .result && available-holds (c .before .before)) (c .if1 .left))
 
 energies-hold-requires : tie.Need-energies-hold-requires
 energies-hold-requires c κs = search needs
 
 returns-2 : tie.Need-returns-2
-unfolding quantityAnswer
 returns-2 c =
-    let energies = c .before in
-    let good = energies .before in
-    rw (← good .before .data-hold .ensures, good .if1 .left, ← energies .energies-hold .ensures, c .if2 .taken)
+    let good = c .before .before in
+    let held = c .before .energies-hold in
+    sym (bad-energy (good .before .before) (past-12 good) (sym (held .ensures) ∙ not-true (held .result) (c .if2 .taken)))
 
-energy-of-requires : tie.Need-energy-of-requires
-energy-of-requires c κs = search needs
+past-18 : (c : tie.Else2) → energies-hold (c .before .before .before .before) ≡ true
+past-18 c = let held = c .before .energies-hold in sym (held .ensures) ∙ not-false (held .result) (c .if2 .left)
 
--- where nothing is refused
-module _ (c : tie.After-energy-of) where
-  abbrev limited : tie.Else2
-  limited = c .before
-
-  abbrev good : tie.Else1
-  good = limited .before .before
-
-  abbrev start : tie.Start
-  start = good .before .before
-
-  not-refused : let a = start .args in quantityAnswer (a .direction) (a .available) (a .energies) (a .limits) (a .points) (a .limit)
-      ≡ given (cond (eqb (a .available) 0 || eqb (c .energy-of .result) 0) 0 (capabilityOrLimit (a .direction) (a .limits) (a .points) (a .limit)))
-  unfolding quantityAnswer quantityOf
-  not-refused =
-      rw (
-        ← good .before .data-hold .ensures,
-        good .if1 .left,
-        ← limited .before .energies-hold .ensures,
-        limited .if2 .left,
-        ← c .energy-of .ensures,
-      )
-
-  data-good : let a = start .args in dataRule (a .direction) (a .limits) (a .points) (a .limit) ≡ true
-  data-good =
-      let held = good .before .data-hold in
-      sym (held .ensures) ∙ both-true (held .result) (availabilityRule (start .args .available)) (not-false _ (good .if1 .left)) .0
+no-quantity-requires : tie.Need-no-quantity-requires
+no-quantity-requires c κs = search needs
 
 returns-3 : tie.Need-returns-3
-returns-3 c = rw (not-refused (c .before), c .if3 .taken)
+returns-3 c =
+    let tested = c .before in
+    let good = tested .before .before .before in
+    sym (zero (good .before .before) (past-12 good) (past-18 (tested .before)) (sym (tested .no-quantity .ensures) ∙ c .if3 .taken))
 
 capability-or-limit-requires : tie.Need-capability-or-limit-requires
-capability-or-limit-requires c κs = data-good (c .before)
+capability-or-limit-requires c κs =
+    let good = c .before .before .before .before in
+    let s = good .before .before in
+    both-true (data-holds s) (available-holds s) (past-12 good) .0
 
 returns-4 : tie.Need-returns-4
-returns-4 c = rw (not-refused (c .before .before), c .before .if3 .left, c .capability-or-limit .ensures)
+returns-4 c =
+    let tested = c .before .before in
+    let good = tested .before .before .before in
+    ap given (c .capability-or-limit .ensures)
+    ∙ sym (as-in-01 (good .before .before) (past-12 good) (past-18 (tested .before)) (sym (tested .no-quantity .ensures) ∙ c .before .if3 .left))
 
 pub quantity-spec : {M : Type 1} → statement M
 quantity-spec =
@@ -75,7 +105,7 @@ quantity-spec =
     returns
     energies-hold-requires
     returns-2
-    energy-of-requires
+    no-quantity-requires
     returns-3
     capability-or-limit-requires
     returns-4)
