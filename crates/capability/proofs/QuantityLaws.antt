@@ -12,7 +12,7 @@ use Rattle.common.proofs.Tests.{both-true, by-test}
 use Rattle.capability.specs.declared.Limits.{Limits}
 use Rattle.capability.specs.declared.Points.{Points}
 use Rattle.capability.specs.declared.Energies.{Energies}
-use Rattle.capability.specs.Quantity.{capabilityOrLimit, dataRule, availabilityRule, energiesRule, energyOf, noQuantity, quantityOf, quantityCauses, quantityAnswer, quantityIn01, QuantityLaws}
+use Rattle.capability.specs.Quantity.{capabilityOrLimit, dataRule, availabilityRule, energiesRule, energyOf, noQuantity, quantityOf, quantityCauses, quantityAnswer, quantityBy01, QuantityLaws}
 
 module _ (direction : ℕ) (l : Limits) (ps : Points) (limit : ℕ) where
   abbrev most : ℕ
@@ -26,8 +26,8 @@ module _ (direction : ℕ) (l : Limits) (ps : Points) (limit : ℕ) where
   limit-most = omega arith
 
   with-energy : (e : Energies) → energiesRule e ≡ true → 0 < e .offer → 0 < e .bid
-      → quantityAnswer direction 1 e l ps limit ≡ quantityIn01 direction l ps limit
-  unfolding quantityAnswer quantityOf quantityIn01
+      → quantityAnswer direction 1 e l ps limit ≡ quantityBy01 direction l ps limit
+  unfolding quantityAnswer quantityOf quantityBy01
   with-energy e rule offer bid =
       let some : 0 < energyOf direction e = by-test (λ (n : ℕ). 0 < n) (eqb direction 1) (e .offer) (e .bid) (λ _. offer) (λ _. bid) in
       rw (and-true good, rule, ne-eqb (energyOf direction e) 0 (λ none. omega (arith, none)))
@@ -49,8 +49,8 @@ module _ (direction : ℕ) (l : Limits) (ps : Points) (limit : ℕ) where
         rw (← given-value causes (quantityOf direction available e l ps limit) kw h)
         (by-test (λ (n : ℕ). n ≤ most) (noQuantity direction available e) 0 most (λ _. omega arith) (λ _. omega arith))
 
-    never-above : (quantityIn01 direction l ps limit ≡ given most) × (kw ≤ most)
-    unfolding quantityIn01
+    never-above : (quantityBy01 direction l ps limit ≡ given most) × (kw ≤ most)
+    unfolding quantityBy01
     never-above = (rw data-good, kw-most)
 
     -- so it fits where the limit does

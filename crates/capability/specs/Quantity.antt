@@ -40,7 +40,7 @@ energyOf direction e = cond (eqb direction 1) (e .offer) (e .bid)
 abbrev pub noQuantity : ℕ → ℕ → Energies → Bool
 noQuantity direction available e = eqb available 0 || eqb (energyOf direction e) 0
 
--- zero there; otherwise as in 01
+-- zero for such a unit; otherwise as in 01
 unfoldable pub quantityOf : ℕ → ℕ → Energies → Limits → Points → ℕ → ℕ
 quantityOf direction available e l ps limit = cond (noQuantity direction available e) 0 (capabilityOrLimit direction l ps limit)
 
@@ -64,8 +64,8 @@ answerOfQuantity Energy = refused 18
 -- ---- beside 01's quantity
 
 -- 01's contracted quantity, which is here for the laws alone
-unfoldable pub quantityIn01 : ℕ → Limits → Points → ℕ → Answer ℕ
-quantityIn01 direction l ps limit =
+unfoldable pub quantityBy01 : ℕ → Limits → Points → ℕ → Answer ℕ
+quantityBy01 direction l ps limit =
     checked (cause 12 (not (dataRule direction l ps limit)) ∷ []) (capabilityOrLimit direction l ps limit)
 
 -- An available unit that has energy has 01's quantity; no unit has more; and energy for bids does not matter in the low direction,
@@ -74,10 +74,11 @@ quantityIn01 direction l ps limit =
 pub record QuantityLaws (direction : ℕ) (l : Limits) (ps : Points) (limit : ℕ) : Type 0 where
   -- with both energies above 0, and neither above its limit, the quantity of an available unit is 01's, and so is its refusal
   pub with-energy : (e : Energies) → energiesRule e ≡ true → 0 < e .offer → 0 < e .bid
-      → quantityAnswer direction 1 e l ps limit ≡ quantityIn01 direction l ps limit
+      → quantityAnswer direction 1 e l ps limit ≡ quantityBy01 direction l ps limit
   -- a quantity is never above 01's, which is given wherever one is
   pub never-above : (available : ℕ) (e : Energies) (kw : ℕ) → quantityAnswer direction available e l ps limit ≡ given kw
-      → (quantityIn01 direction l ps limit ≡ given (capabilityOrLimit direction l ps limit)) × (kw ≤ capabilityOrLimit direction l ps limit)
+      → (quantityBy01 direction l ps limit ≡ given (capabilityOrLimit direction l ps limit))
+      × (kw ≤ capabilityOrLimit direction l ps limit)
   -- only the direction's own energy matters, as far as neither is above its limit
   pub own-energy : (available : ℕ) (e f : Energies) → energiesRule e ≡ true → energiesRule f ≡ true
       → energyOf direction e ≡ energyOf direction f

@@ -273,7 +273,8 @@ fn energies_hold(e: Energies) -> bool
 fn energy_of(direction: u32, e: Energies) -> u32
     ensures { λ r. ⌜ r ≡ energyOf direction e ⌝ }
 {
-    if direction == 1 {
+    let low = direction == 1;
+    if low {
         return e.offer;
     }
     e.bid

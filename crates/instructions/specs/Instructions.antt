@@ -1,4 +1,5 @@
--- Paper 02, No. 2: the machine that follows the start and cease instructions of one direction; No. 6: a start's energy. Assumes nothing.
+-- Paper 02, No. 2: the machine that follows the start and cease instructions of one direction; of No. 6, the energy of a start.
+-- Assumes nothing.
 use mathlib.Core.Bool.{Bool, true, false, not, cond, _&&_}
 use mathlib.Core.List.{List, [], _∷_}
 use Prim.Native.Nat.{ℕ, _+_}
