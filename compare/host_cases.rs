@@ -144,8 +144,8 @@ fn break_points(random: &mut Random, points: &mut Vec<(Int, Int)>) {
             points.extend_from_within(..);
             points.truncate(6);
         }
-        6 => points[i].0 = (points[i].0 + random.between(-1, 1)).max(0),
-        _ => points[i].1 = (points[i].1 + random.between(-1, 1)).max(0),
+        6 => points[i].0 = (points[i].0 + random.between(-1, 1)).clamp(0, MAX),
+        _ => points[i].1 = (points[i].1 + random.between(-1, 1)).clamp(0, MAX),
     }
 }
 
