@@ -4,7 +4,7 @@ use crate::host::{self, BEHIND};
 use crate::model::{self, Direction, Int, Levels, Terms, Unit};
 use crate::papers::REPORT_INPUT;
 use crate::random::Random;
-use crate::tally::{printed, Tally};
+use crate::tally::{printed, stop, Tally};
 
 const MAX: Int = u32::MAX as Int;
 
@@ -186,20 +186,28 @@ fn any_energies(random: &mut Random, unit: &mut Unit) {
     }
 }
 
-/// The three laws of No. 6 for a unit whose quantity the call gave: it is 01's with both energies above 0, never above 01's, and
-/// the same whatever the other direction's energy.
-fn quantity_laws(random: &mut Random, direction: u32, unit: &Unit, found: i64, tally: &mut Tally) {
-    let Ok(most) = unit.quantity_in_01(direction.into()) else {
-        return printed("01 refuses", -12, found);
+/// Stops where a law of No. 6 does not hold of a quantity.
+fn law(what: &str, holds: bool, direction: u32, unit: &Unit) {
+    if !holds {
+        let shown = format!("direction {direction}, {unit:?}\n");
+        stop("quantity, laws", shown.as_bytes(), what, "not so");
+    }
+}
+
+/// The three laws of No. 6 for a unit, of which the call gave `found`: the quantity is never above 01's, is 01's with both energies
+/// above 0, and is the same whatever the other direction's energy.
+fn laws(random: &mut Random, direction: u32, unit: &Unit, found: i64, tally: &mut Tally) {
+    let most = match unit.quantity_in_01(direction.into()) {
+        Ok(quantity) => quantity as i64,
+        Err(number) => return law("refused as in 01", found == -number, direction, unit),
     };
-    let most = most as i64;
-    printed("never above 01's", true, found <= most);
+    law("never above 01's", found <= most, direction, unit);
     let good = |energy: Int| (0..=10_000_000).contains(&energy);
     if !(good(unit.offer) && good(unit.bid)) {
         return;
     }
     if unit.available == 1 && unit.offer > 0 && unit.bid > 0 {
-        printed("01's with energy", most, found);
+        law("01's with energy", found == most, direction, unit);
     }
     let mut other = unit.clone();
     let energy = random.pick(&[0, 1, 9_999_999, 10_000_000]);
@@ -208,7 +216,7 @@ fn quantity_laws(random: &mut Random, direction: u32, unit: &Unit, found: i64, t
         _ => other.offer = energy,
     }
     let again = host::quantity("quantity, laws", direction, &other, tally);
-    printed("whatever the other energy", found, again);
+    law("by its own energy", found == again, direction, &other);
 }
 
 pub fn quantity(random: &mut Random, count: usize, tally: &mut Tally) {
@@ -234,7 +242,7 @@ pub fn quantity(random: &mut Random, count: usize, tally: &mut Tally) {
             host::quantity_of(TOPIC, direction, &unit, &bytes, tally);
         } else {
             let found = host::quantity(TOPIC, direction, &unit, tally);
-            quantity_laws(random, direction, &unit, found, tally);
+            laws(random, direction, &unit, found, tally);
         }
     }
     // Each length of the points' bytes, around the ones that hold 2 to 5 points, once with an energy above its limit.
