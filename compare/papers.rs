@@ -166,10 +166,11 @@ fn quantity(tally: &mut Tally) {
         printed("quantity", quantity * 1_000, found);
     }
     // 003, appendix 1: the rooms that its text gives, at levels that lead to them (its figures are not in the text); SEL and
-    // SIL are 0 in the first two.
+    // SIL are 0 in the first three, and the third has a footroom of "around 50MW".
     let rooms = [
         ([-50, 0, 0, 50, -20], 70, 30),
         ([-50, 0, 0, 50, 0], 50, 50),
+        ([-20, 0, 0, 50, 30], 20, 50),
         ([-80, -30, 30, 70, 50], 20, 20),
         ([-60, -30, 30, 70, -30], 0, 30),
     ];

@@ -18,7 +18,7 @@ use Rattle.capability.specs.Capability.{limitsRule, directionRule, roomO
 unfoldable pub capabilityOrLimit : ℕ → Limits → Points → ℕ → ℕ
 capabilityOrLimit direction l ps limit = min (capabilityOf ps (roomOf direction l)) limit
 
--- the submitted limit is 0 to 4,000,000
+-- what it asks of the data; the submitted limit is 0 to 4,000,000
 unfoldable pub dataRule : ℕ → Limits → Points → ℕ → Bool
 dataRule direction l ps limit = directionRule direction && limitsRule l && pointsRule ps && leb limit 4000000
 

@@ -1,12 +1,12 @@
 -- What the starts, ceases and answers that were carried out say of a state, and that every event keeps it. Assumes nothing.
 use mathlib.Core.Path.{_≡_, refl, sym, ap, _∙_}
-use mathlib.Core.Bool.{Bool, true, false, true≢false, false≢true, not, cond, _&&_, and-true}
+use mathlib.Core.Bool.{Bool, true, false, true≢false, false≢true, not, cond, and-true}
 use mathlib.Core.Logic.{inl, inr}
 use mathlib.Core.List.{List, [], _∷_, _++_, append-assoc, append-nil}
 use Prim.Native.Nat.{ℕ, _+_, _≤_}
 use native.Mathlib.Omega.{arith}
 use borrow.Author.Tests.{le-leb, not-true}
-use lib.Dec.{leb, ltb}
+use lib.Dec.{leb}
 use Rattle.common.proofs.Tests.{both-true, by-test}
 use Rattle.instructions.specs.declared.Pending.{Pending}
 use Rattle.instructions.specs.declared.State.{State}
