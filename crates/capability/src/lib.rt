@@ -11,7 +11,7 @@ ghost use Rattle.signed.specs.Sign.{above};
 ghost use Rattle.capability.specs.Capability.{inRange, limitsRule, wholeRange, headroom, footroom, directionRule, roomOf};
 ghost use Rattle.capability.specs.Capability.{pointInRange, rises, pointsRule, Segment, line, capabilityOf};
 ghost use Rattle.capability.specs.Capability.{answerOf, roomAnswer, capabilityAnswer};
-ghost use Rattle.capability.specs.Quantity.{capabilityOrLimit, dataRule, energiesRule, energyOf, noQuantity, quantityAnswer, answerOfQuantity};
+ghost use Rattle.capability.specs.Quantity.{capabilityOrLimit, dataRule, availabilityRule, energiesRule, energyOf, noQuantity, quantityAnswer, answerOfQuantity};
 
 // Maximum and stable import limits, stable and maximum export limits, operating level.
 pub struct Limits {
@@ -263,6 +263,12 @@ fn capability_or_limit(direction: u32, l: Limits, ps: Points, limit: u32) -> u64
     common::smaller(capability_of(ps, room), limit as u64)
 }
 
+fn availability_holds(available: u32) -> bool
+    ensures { λ r. ⌜ r ≡ availabilityRule available ⌝ }
+{
+    available <= 1
+}
+
 fn energies_hold(e: Energies) -> bool
     ensures { λ r. ⌜ r ≡ energiesRule e ⌝ }
 {
@@ -298,7 +304,7 @@ pub fn quantity(
 ) -> QuantityAnswer
     ensures { λ r. ⌜ answerOfQuantity r ≡ quantityAnswer direction available energies limits points limit ⌝ }
 {
-    let good = data_hold(direction, limits, points, limit) & (available <= 1);
+    let good = data_hold(direction, limits, points, limit) & availability_holds(available);
     if !good {
         return QuantityAnswer::Data;
     }

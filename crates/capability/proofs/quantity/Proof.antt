@@ -52,16 +52,23 @@ module _ (s : tie.Start) where
 data-hold-requires : tie.Need-data-hold-requires
 data-hold-requires c κs = search needs
 
+availability-holds-requires : tie.Need-availability-holds-requires
+availability-holds-requires c κs = search needs
+
+-- what 12 is about, as the code tests it
+tested-12 : (c : tie.After-availability-holds) → let s = c .before .before in
+    data-holds s && available-holds s ≡ c .before .data-hold .result && c .availability-holds .result
+tested-12 c = rw (c .before .data-hold .ensures, c .availability-holds .ensures)
+
 returns : tie.Need-returns
 returns c =
-    let s = c .before .before in
-    let held = c .before .data-hold in
-    sym (bad-data s (rw (← held .ensures) (not-true (held .result && available-holds s) (c .if1 .taken))))
+    let t = c .before in
+    sym (bad-data (t .before .before) (tested-12 t ∙ not-true (t .before .data-hold .result && t .availability-holds .result) (c .if1 .taken)))
 
-past-12 : (c : tie.Else1) → let s = c .before .before in data-holds s && available-holds s ≡ true
+past-12 : (c : tie.Else1) → let s = c .before .before .before in data-holds s && available-holds s ≡ true
 past-12 c =
-    let held = c .before .data-hold in
-    rw (← held .ensures) (not-false (held .result && available-holds (c .before .before)) (c .if1 .left))
+    let t = c .before in
+    tested-12 t ∙ not-false (t .before .data-hold .result && t .availability-holds .result) (c .if1 .left)
 
 energies-hold-requires : tie.Need-energies-hold-requires
 energies-hold-requires c κs = search needs
@@ -70,9 +77,9 @@ returns-2 : tie.Need-returns-2
 returns-2 c =
     let good = c .before .before in
     let held = c .before .energies-hold in
-    sym (bad-energy (good .before .before) (past-12 good) (sym (held .ensures) ∙ not-true (held .result) (c .if2 .taken)))
+    sym (bad-energy (good .before .before .before) (past-12 good) (sym (held .ensures) ∙ not-true (held .result) (c .if2 .taken)))
 
-past-18 : (c : tie.Else2) → energies-hold (c .before .before .before .before) ≡ true
+past-18 : (c : tie.Else2) → energies-hold (c .before .before .before .before .before) ≡ true
 past-18 c = let held = c .before .energies-hold in sym (held .ensures) ∙ not-false (held .result) (c .if2 .left)
 
 no-quantity-requires : tie.Need-no-quantity-requires
@@ -82,12 +89,12 @@ returns-3 : tie.Need-returns-3
 returns-3 c =
     let tested = c .before in
     let good = tested .before .before .before in
-    sym (zero (good .before .before) (past-12 good) (past-18 (tested .before)) (sym (tested .no-quantity .ensures) ∙ c .if3 .taken))
+    sym (zero (good .before .before .before) (past-12 good) (past-18 (tested .before)) (sym (tested .no-quantity .ensures) ∙ c .if3 .taken))
 
 capability-or-limit-requires : tie.Need-capability-or-limit-requires
 capability-or-limit-requires c κs =
     let good = c .before .before .before .before in
-    let s = good .before .before in
+    let s = good .before .before .before in
     both-true (data-holds s) (available-holds s) (past-12 good) .0
 
 returns-4 : tie.Need-returns-4
@@ -95,13 +102,14 @@ returns-4 c =
     let tested = c .before .before in
     let good = tested .before .before .before in
     ap given (c .capability-or-limit .ensures)
-    ∙ sym (as-in-01 (good .before .before) (past-12 good) (past-18 (tested .before)) (sym (tested .no-quantity .ensures) ∙ c .before .if3 .left))
+    ∙ sym (as-in-01 (good .before .before .before) (past-12 good) (past-18 (tested .before)) (sym (tested .no-quantity .ensures) ∙ c .before .if3 .left))
 
 pub quantity-spec : {M : Type 1} → statement M
 quantity-spec =
     tie.close
     (tie.spec
     data-hold-requires
+    availability-holds-requires
     returns
     energies-hold-requires
     returns-2
