@@ -172,13 +172,14 @@ pub extern "C" fn bench_closings(
     readings: &[u16],
     delivered: i64,
     taken: i64,
+    trader: u32,
 ) -> u64
-    ensures { λ r. ⌜ r ≡ recordNumber (closings count (openedRecord mw size first) (closingWith purchase (now (readings .entry)) delivered taken)) ⌝ }
+    ensures { λ r. ⌜ r ≡ recordNumber (closings count (openedRecord mw size first) (closingWith purchase (now (readings .entry)) delivered taken trader)) ⌝ }
 {
     let mut after = opened_record(mw, size, first);
     let mut i: u32 = 0;
     while i < count {
-        let c = ledger::close_period(after, purchase, readings, delivered, taken);
+        let c = ledger::close_period(after, purchase, readings, delivered, taken, trader);
         let answer = c.answer;
         if ledger::close_number(answer) == 0 {
             after = c.record;

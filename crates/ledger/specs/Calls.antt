@@ -1,11 +1,12 @@
--- Paper 01, "Ledger": checking, proposing and closing, each as its whole answer for any record. Assumes nothing.
+-- Paper 01, "Ledger", and paper 02, No. 7: checking, proposing and closing, each as its whole answer for any record. Assumes
+-- nothing.
 use mathlib.Core.Path.{_≡_}
 use mathlib.Core.Bool.{Bool, not, cond, _&&_, _||_}
 use mathlib.Core.List.{List, [], _∷_}
-use Prim.Native.Nat.{ℕ, suc, _+_, _≤_, _<_, _^_}
-use lib.Dec.{eqb}
+use Prim.Native.Nat.{ℕ, suc, _+_, _-_, _≤_, _<_, _^_}
+use lib.Dec.{leb, eqb}
 use lib.IntN.{ℤ, pos, _+ℤ_, _-ℤ_}
-use lib.ListN.{set}
+use lib.ListN.{getD, set}
 use lib.Signed.{ltZ}
 use Rattle.common.specs.Answer.{Answer, refused, given, Cause, cause, checked}
 use Rattle.common.specs.Periods.{ofPeriod}
@@ -77,17 +78,22 @@ proposing r = checked (cause 10 (unusable r) ∷ []) (proposal r)
 
 -- ---- closing
 
--- purchase, readings, energy delivered low and energy taken high
+-- purchase, readings, energy delivered low and energy taken high, and the trader
 pub record Closing : Type 0 where
   pub purchase : ℤ
   pub readings : List ℕ
   pub delivered : ℤ
   pub taken : ℤ
+  pub trader : ℕ
 
 -- the closing of these arguments
-abbrev pub closingWith : ℤ → List ℕ → ℤ → ℤ → Closing
-closingWith purchase readings delivered taken =
-    record { purchase = purchase; readings = readings; delivered = delivered; taken = taken }
+abbrev pub closingWith : ℤ → List ℕ → ℤ → ℤ → ℕ → Closing
+closingWith purchase readings delivered taken trader =
+    record { purchase = purchase; readings = readings; delivered = delivered; taken = taken; trader = trader }
+
+-- traders are 1 to 4
+abbrev pub isTrader : ℕ → Bool
+isTrader w = leb 1 w && leb w 4
 
 -- new state = state + p − delivered + taken
 abbrev pub moved : ℤ → ℤ → ℤ → ℤ → ℤ
@@ -112,19 +118,27 @@ closedEntries q x closed bound =
       scheds = set (x .scheds) closed (sched (ER q) (ofPeriod (set (x .bounds) closed bound)) (suc closed));
     }
 
+-- the total of trader w, in a list that begins with trader 1's
+abbrev pub ofTrader : List ℕ → ℕ → ℕ
+ofTrader each w = getD each (w - 1) 0
+
+-- a closing adds to its trader's total, and to nobody else's
+abbrev pub addedTo : ℕ → List ℕ → ℕ → List ℕ
+addedTo w each more = set each (w - 1) (ofTrader each w + more)
+
 -- purchases above 0 are bought, those below 0 sold
-abbrev pub closedTotals : Totals → ℤ → ℤ → ℤ → Totals
-closedTotals t p delivered taken =
+abbrev pub closedTotals : Totals → ℤ → ℤ → ℤ → ℕ → Totals
+closedTotals t p delivered taken w =
     record {
-      bought = t .bought + above p;
-      sold = t .sold + below p;
+      bought = addedTo w (t .bought) (above p);
+      sold = addedTo w (t .sold) (below p);
       delivered = t .delivered + above delivered;
       taken = t .taken + above taken;
     }
 
 -- one period more is closed
-unfoldable pub closedRecord : Record → ℕ → ℕ → ℕ → ℤ → ℤ → ℤ → Record
-closedRecord r low high new p delivered taken =
+unfoldable pub closedRecord : Record → ℕ → ℕ → ℕ → ℤ → ℤ → ℤ → ℕ → Record
+closedRecord r low high new p delivered taken w =
     record {
       terms = r .terms;
       curves = r .curves;
@@ -134,7 +148,7 @@ closedRecord r low high new p delivered taken =
       closed = r .closed + 1;
       low = closedEntries (r .terms .low) (r .low) (r .closed) low;
       high = closedEntries (r .terms .high) (r .high) (r .closed) high;
-      totals = closedTotals (r .totals) p delivered taken;
+      totals = closedTotals (r .totals) p delivered taken w;
     }
 
 module _ (r : Record) (c : Closing) where
@@ -146,12 +160,13 @@ module _ (r : Record) (c : Closing) where
   high = highBound (r .terms .high) (r .curves) (c .readings)
 
   abbrev pub recordClosed : Record
-  recordClosed = closedRecord r low high (above (newState (pos (r .state)) c)) (c .purchase) (c .delivered) (c .taken)
+  recordClosed = closedRecord r low high (above (newState (pos (r .state)) c)) (c .purchase) (c .delivered) (c .taken) (c .trader)
 
-  -- closing checks 10, 8, 6, 9
+  -- closing checks 10, 19, 8, 6, 9
   abbrev pub closingCauses : List Cause
   closingCauses =
       cause 10 (unusable r)
+      ∷ cause 19 (not (isTrader (c .trader)))
       ∷ cause 8 (not (accepts r (c .purchase)))
       ∷ cause 6 (not (goodReadings (c .readings)))
       ∷ cause 9 (not (settles low high (r .size) (c .delivered) (c .taken) (newState (pos (r .state)) c)))
@@ -174,6 +189,7 @@ proposeAnswerOf proposes.Unusable = refused 10
 abbrev pub closeAnswerWith : {A : Type 0} → CloseAnswer → A → Answer A
 closeAnswerWith closes.Closed a = given a
 closeAnswerWith closes.Unusable a = refused 10
+closeAnswerWith closes.Trader a = refused 19
 closeAnswerWith closes.Purchase a = refused 8
 closeAnswerWith closes.Readings a = refused 6
 closeAnswerWith closes.Energy a = refused 9
@@ -192,15 +208,20 @@ pub record NeedFits (n : Next) : Type 0 where
 abbrev pub settling : ℕ → ℕ → ℕ → ℤ → ℤ → ℤ → Settled
 settling low high size delivered taken new = cond (settles low high size delivered taken new) (settlements.To (above new)) settlements.Not
 
+-- `added_to`: the trader has a total, which is a u32 with what is added
+pub record TotalFits (w : ℕ) (each : List ℕ) (more : ℕ) : Type 0 where
+  pub trader : isTrader w ≡ true
+  pub fits : ofTrader each w + more < 2 ^ 32
+
 -- `closed_totals`: each total with one more closing is a u32
-pub record TotalsFit (t : Totals) (p delivered taken : ℤ) : Type 0 where
-  pub bought-fits : t .bought + above p < 2 ^ 32
-  pub sold-fits : t .sold + below p < 2 ^ 32
+pub record TotalsFit (t : Totals) (p delivered taken : ℤ) (w : ℕ) : Type 0 where
+  pub bought-fits : TotalFits w (t .bought) (above p)
+  pub sold-fits : TotalFits w (t .sold) (below p)
   pub delivered-fits : t .delivered + above delivered < 2 ^ 32
   pub taken-fits : t .taken + above taken < 2 ^ 32
 
 -- `closed_record`: a period is open, the standing is the record's, and the totals fit
-pub record CanClose (r : Record) (s : Standing) (p delivered taken : ℤ) : Type 0 where
+pub record CanClose (r : Record) (s : Standing) (p delivered taken : ℤ) (w : ℕ) : Type 0 where
   pub period-open : r .closed < 8
   pub stands : s ≡ standingOf r
-  pub totals-fit : TotalsFit (r .totals) p delivered taken
+  pub totals-fit : TotalsFit (r .totals) p delivered taken w

@@ -4,7 +4,7 @@
 -- one after the other, each on the record that the last one returned or left. Then read off the list which closings were carried
 -- out: their readings give the bounds, the bounds give every start, and their purchases, deliveries and takings give the state.
 -- Each closing's readings are at two a second or at twenty, and one list may mix both (paper 02, No. 1); the bounds are those by watts
--- (No. 5).
+-- (No. 5). Each closing names its trader, who matters to the traders' totals and to nothing else (No. 7).
 -- The unit passes both directions at every start: after the first k closings carried out, for every k from none to all, at
 -- start(k+1). Every call gives 10 exactly when eight closings were carried out. Before that the proposal is accepted, lies within
 -- the recovery volumes and is nearest to 0, and a purchase is refused exactly when it goes past empty or full itself or some
@@ -16,6 +16,7 @@ use mathlib.Core.Bool.{Bool, true, cond}
 use mathlib.Core.Logic.{_↔_, _≢_, _⊎_}
 use mathlib.Core.List.{List, [], _∷_, _++_, map, foldl}
 use Prim.Native.Nat.{ℕ, suc, _-_, _≤_, _<_}
+use lib.Dec.{eqb}
 use lib.IntN.{ℤ, pos, negℤ, natAbs, _+ℤ_, _-ℤ_}
 use lib.ListN.{length, take, replicate}
 use lib.Signed.{_≤ℤ_, _<ℤ_}
@@ -32,7 +33,7 @@ use Rattle.ledger_record.specs.Rule.{recordRule}
 use Rattle.ledger_record.specs.declared.Entries.{Entries}
 use Rattle.ledger_record.specs.declared.Totals.{Totals}
 use Rattle.ledger_record.specs.declared.Record.{Record}
-use Rattle.ledger.specs.Calls.{Closing, needOf, newState, checking, proposing, closing}
+use Rattle.ledger.specs.Calls.{Closing, closingWith, needOf, newState, checking, proposing, closing}
 
 -- ---- a list of calls
 
@@ -132,8 +133,9 @@ module _ (b : Battery) where
     pub taken : ℤ
     pub possible : Possible readings delivered taken
 
-  abbrev pub ending : ℤ → Outcome → Closing
-  ending p o = record { purchase = p; readings = o .readings; delivered = o .delivered; taken = o .taken }
+  -- the closing with purchase p of trader w, whom checking does not ask for
+  abbrev pub ending : ℤ → ℕ → Outcome → Closing
+  ending p w o = closingWith p (o .readings) (o .delivered) (o .taken) w
 
   -- it fails when the new state is below low start(n+2), or size less the new state is below high start(n+2)
   abbrev pub Fails : History → Closing → Type 0
@@ -143,9 +145,10 @@ module _ (b : Battery) where
 
   -- ---- what n closings carried out say of the next call, on the record r
 
-  -- none of a closing's causes holds, in the order 10, 8, 6, 9
+  -- none of a closing's causes holds, in the order 10, 19, 8, 6, 9
   pub record NoCause (h : History) (c : Closing) : Type 0 where
     pub before-eight : length h < 8
+    pub trader : (1 ≤ c .trader) × (c .trader ≤ 4)
     pub floor : needAfter (b .low) h ≤ℤ (stateAfter h +ℤ c .purchase)
     pub ceiling : (stateAfter h +ℤ c .purchase) ≤ℤ (pos (b .size) -ℤ needAfter (b .high) h)
     pub possible : Possible (c .readings) (c .delivered) (c .taken)
@@ -162,14 +165,14 @@ module _ (b : Battery) where
     pub proposal-nearest : (q : ℤ) → checking r q ≡ given tt → q ≢ proposal → natAbs proposal < natAbs q
     -- a purchase is accepted or refused 8
     pub accepted-or-refused : (p : ℤ) → (checking r p ≡ given tt) ⊎ (checking r p ≡ refused 8)
-    -- refused exactly when state + p is past empty or full, or some outcome fails
-    pub refused-exactly : (p : ℤ) →
-        checking r p ≡ refused 8 ↔ OutOfSize (stateAfter h +ℤ p) ⊎ ((o : Outcome) × Fails h (ending p o))
+    -- whoever the trader w: refused exactly when state + p is past empty or full, or some outcome fails
+    pub refused-exactly : (p : ℤ) (w : ℕ) →
+        checking r p ≡ refused 8 ↔ OutOfSize (stateAfter h +ℤ p) ⊎ ((o : Outcome) × Fails h (ending p w o))
     -- for an accepted p no outcome fails, even where the new state is outside 0..size
-    pub accepted-passes : (p : ℤ) → checking r p ≡ given tt → (o : Outcome) → ¬ Fails h (ending p o)
+    pub accepted-passes : (p : ℤ) (w : ℕ) → checking r p ≡ given tt → (o : Outcome) → ¬ Fails h (ending p w o)
     -- for a refused p with state + p in 0..size, some outcome fails whose new state is in 0..size
-    pub refused-fails : (p : ℤ) → checking r p ≡ refused 8 → InSize (stateAfter h +ℤ p) →
-        (o : Outcome) × Fails h (ending p o) × InSize (newState (stateAfter h) (ending p o))
+    pub refused-fails : (p : ℤ) (w : ℕ) → checking r p ≡ refused 8 → InSize (stateAfter h +ℤ p) →
+        (o : Outcome) × Fails h (ending p w o) × InSize (newState (stateAfter h) (ending p w o))
 
   pub record Promise (h : History) (r : Record) : Type 0 where
     pub at-most-eight : length h ≤ 8
@@ -199,18 +202,37 @@ entriesAfter d h =
       scheds = eightOf 0 (map (sched (d .ER) (ofPeriod (bounds d h))) (periodsTo (length h)));
     }
 
+-- what a closing bought, sold, delivered and took
+abbrev pub bought : Closing → ℕ
+bought c = above (c .purchase)
+
+abbrev pub sold : Closing → ℕ
+sold c = below (c .purchase)
+
+abbrev pub delivered : Closing → ℕ
+delivered c = above (c .delivered)
+
+abbrev pub taken : Closing → ℕ
+taken c = above (c .taken)
+
 -- the sum over the closings carried out
 abbrev pub total : (Closing → ℕ) → History → ℕ
 total f h = sum (map f h)
 
--- what they bought, sold, delivered and took
+-- the sum over those with trader w's number
+abbrev pub totalOf : (Closing → ℕ) → History → ℕ → ℕ
+totalOf f h w = total (λ (c : Closing). cond (eqb (c .trader) w) (f c) 0) h
+
+abbrev pub totalsByTrader : (Closing → ℕ) → History → List ℕ
+totalsByTrader f h = map (totalOf f h) (1 ∷ 2 ∷ 3 ∷ 4 ∷ [])
+
 unfoldable pub totalsAfter : History → Totals
 totalsAfter h =
     record {
-      bought = total (λ (c : Closing). above (c .purchase)) h;
-      sold = total (λ (c : Closing). below (c .purchase)) h;
-      delivered = total (λ (c : Closing). above (c .delivered)) h;
-      taken = total (λ (c : Closing). above (c .taken)) h;
+      bought = totalsByTrader bought h;
+      sold = totalsByTrader sold h;
+      delivered = total delivered h;
+      taken = total taken h;
     }
 
 -- ---- at what a unit opens with

@@ -7,7 +7,7 @@ ghost use lib.IntN.{pos, _+ℤ_, _-ℤ_};
 ghost use Rattle.common.specs.Answer.{numberOf, orBlank};
 ghost use Rattle.signed.specs.Sign.{within};
 ghost use Rattle.ledger_record.specs.Rule.{nextAt};
-ghost use Rattle.ledger.specs.Calls.{needOf, NeedFits, toward, moved, settling, closedEntries, TotalsFit, closedTotals, closedRecord, CanClose, checking, checkAnswerOf, proposing, proposeAnswerOf, closingWith, closing, closeAnswerWith, closeAnswerOf};
+ghost use Rattle.ledger.specs.Calls.{needOf, NeedFits, toward, moved, settling, closedEntries, isTrader, TotalFits, addedTo, TotalsFit, closedTotals, closedRecord, CanClose, checking, checkAnswerOf, proposing, proposeAnswerOf, closingWith, closing, closeAnswerWith, closeAnswerOf};
 use energy::period::PeriodEnergy;
 use ledger_record::Entries;
 use ledger_record::Record;
@@ -33,6 +33,8 @@ pub enum ProposeAnswer {
 pub enum CloseAnswer {
     Closed,
     Unusable,
+    // The trader is not 1 to 4.
+    Trader,
     Purchase,
     // The count is that of neither rate, or a reading is bad.
     Readings,
@@ -201,14 +203,31 @@ fn total_with(total: u32, more: u64) -> u32
     total + more as u32
 }
 
+// The traders' totals, with what a closing adds to that of its trader.
+fn added_to(trader: u32, each: [u32; 4], more: u64) -> [u32; 4]
+    requires { ⌜ TotalFits trader each more ⌝ }
+    ensures { λ r. ⌜ r ≡ addedTo trader each more ⌝ }
+{
+    let at = (trader - 1) as usize;
+    let mut totals = each;
+    totals[at] = total_with(each[at], more);
+    totals
+}
+
 // The totals with one more period closed.
-fn closed_totals(totals: Totals, purchase: i64, delivered: i64, taken: i64) -> Totals
-    requires { ⌜ TotalsFit totals purchase delivered taken ⌝ }
-    ensures { λ r. ⌜ r ≡ closedTotals totals purchase delivered taken ⌝ }
+fn closed_totals(
+    totals: Totals,
+    purchase: i64,
+    delivered: i64,
+    taken: i64,
+    trader: u32,
+) -> Totals
+    requires { ⌜ TotalsFit totals purchase delivered taken trader ⌝ }
+    ensures { λ r. ⌜ r ≡ closedTotals totals purchase delivered taken trader ⌝ }
 {
     Totals {
-        bought: total_with(totals.bought, signed::above_zero(purchase)),
-        sold: total_with(totals.sold, signed::below_zero(purchase)),
+        bought: added_to(trader, totals.bought, signed::above_zero(purchase)),
+        sold: added_to(trader, totals.sold, signed::below_zero(purchase)),
         delivered: total_with(totals.delivered, signed::above_zero(delivered)),
         taken: total_with(totals.taken, signed::above_zero(taken)),
     }
@@ -224,9 +243,10 @@ fn closed_record(
     purchase: i64,
     delivered: i64,
     taken: i64,
+    trader: u32,
 ) -> Record
-    requires { ⌜ CanClose given s purchase delivered taken ⌝ }
-    ensures { λ r. ⌜ r ≡ closedRecord given low high new purchase delivered taken ⌝ }
+    requires { ⌜ CanClose given s purchase delivered taken trader ⌝ }
+    ensures { λ r. ⌜ r ≡ closedRecord given low high new purchase delivered taken trader ⌝ }
 {
     let t = given.terms;
     let curves = given.curves;
@@ -247,7 +267,7 @@ fn closed_record(
         closed: closed + 1,
         low: closed_entries(low_q, low_entries, closed, low, low_next),
         high: closed_entries(high_q, high_entries, closed, high, high_next),
-        totals: closed_totals(totals, purchase, delivered, taken),
+        totals: closed_totals(totals, purchase, delivered, taken, trader),
     }
 }
 
@@ -261,20 +281,31 @@ fn refuse(answer: CloseAnswer, given: Record) -> Closed
     }
 }
 
-// Closes a period: refusals 10, 8, 6, 9; the record stays as it was beside a refusal.
+// Refusal 19 holds where it is none.
+fn is_trader(trader: u32) -> bool
+    ensures { λ r. ⌜ r ≡ isTrader trader ⌝ }
+{
+    (1 <= trader) & (trader <= 4)
+}
+
+// Closes a period: refusals 10, 19, 8, 6, 9; the record stays as it was beside a refusal.
 pub fn close_period(
     given: Record,
     purchase: i64,
     readings: &[u16],
     delivered: i64,
     taken: i64,
+    trader: u32,
 ) -> Closed
-    ensures answer { λ r. ⌜ closeAnswerOf r ≡ closing given (closingWith purchase (now (readings .entry)) delivered taken) ⌝ }
-    ensures beside { λ r. ⌜ r .«record» ≡ orBlank given (closing given (closingWith purchase (now (readings .entry)) delivered taken)) ⌝ }
+    ensures answer { λ r. ⌜ closeAnswerOf r ≡ closing given (closingWith purchase (now (readings .entry)) delivered taken trader) ⌝ }
+    ensures beside { λ r. ⌜ r .«record» ≡ orBlank given (closing given (closingWith purchase (now (readings .entry)) delivered taken trader)) ⌝ }
 {
     let s = ledger_record::standing_of(given);
     if is_unusable(given.closed, s.holds) {
         return refuse(CloseAnswer::Unusable, given);
+    }
+    if !is_trader(trader) {
+        return refuse(CloseAnswer::Trader, given);
     }
     let low_next = s.low;
     let high_next = s.high;
@@ -296,7 +327,7 @@ pub fn close_period(
     };
     Closed {
         answer: CloseAnswer::Closed,
-        record: closed_record(given, s, low, high, new, purchase, delivered, taken),
+        record: closed_record(given, s, low, high, new, purchase, delivered, taken, trader),
     }
 }
 
@@ -327,6 +358,7 @@ pub fn close_number(answer: CloseAnswer) -> u32
     match answer {
         CloseAnswer::Closed => 0,
         CloseAnswer::Unusable => 10,
+        CloseAnswer::Trader => 19,
         CloseAnswer::Purchase => 8,
         CloseAnswer::Readings => 6,
         CloseAnswer::Energy => 9,

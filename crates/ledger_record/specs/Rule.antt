@@ -1,4 +1,4 @@
--- Paper 01, "Ledger": the record rule. Assumes nothing.
+-- Paper 01, "Ledger", and paper 02, No. 7: the record rule. Assumes nothing.
 use mathlib.Core.Bool.{Bool, cond, _&&_}
 use Prim.Native.Nat.{ℕ, suc, _*_, min}
 use lib.Dec.{leb, eqb}
@@ -46,12 +46,12 @@ entriesRule q closed x = every (λ (i : ℕ). entryRule q x i (leb i closed)) (p
 
 -- ---- the whole record
 
--- bought and sold are each at most 10,000,000 per period closed, delivered at most the sum of the low bounds, taken at most
--- that of the high
+-- bought and sold, summed over the traders, are each at most 10,000,000 per period closed, delivered at most the sum of the low
+-- bounds, taken at most that of the high
 unfoldable pub totalsRule : Record → Bool
 totalsRule r =
-    leb (r .totals .bought) (10000000 * r .closed)
-    && leb (r .totals .sold) (10000000 * r .closed)
+    leb (sum (r .totals .bought)) (10000000 * r .closed)
+    && leb (sum (r .totals .sold)) (10000000 * r .closed)
     && leb (r .totals .delivered) (sum (r .low .bounds))
     && leb (r .totals .taken) (sum (r .high .bounds))
 
@@ -64,12 +64,12 @@ nextStart q closed x = cond (leb closed 8) (startAt q x (suc closed)) (pos 0)
 abbrev pub passesBoth : ℕ → ℕ → ℤ → ℤ → Bool
 passesBoth state size low high = leb state size && leZ low (pos state) && leZ high (pos size -ℤ pos state)
 
--- it passes them at the next start, and fits first state and totals
+-- it passes them at the next start, and equals the first state plus all purchases less all sales, less delivered, plus taken
 unfoldable pub stateRule : Record → Bool
 stateRule r =
     passesBoth (r .state) (r .size) (nextStart (r .terms .low) (r .closed) (r .low)) (nextStart (r .terms .high) (r .closed) (r .high))
     && eqZ (pos (r .state))
-    (pos (r .first) +ℤ pos (r .totals .bought) -ℤ pos (r .totals .sold) -ℤ pos (r .totals .delivered) +ℤ pos (r .totals .taken))
+    (pos (r .first) +ℤ pos (sum (r .totals .bought)) -ℤ pos (sum (r .totals .sold)) -ℤ pos (r .totals .delivered) +ℤ pos (r .totals .taken))
 
 -- periods closed 0 to 8, and what opening checks holds
 unfoldable pub recordRule : Record → Bool

@@ -1,7 +1,7 @@
 // The ledger's record, its rule and opening.
 ghost use mathlib.Core.Path.{_≡_};
 ghost use mathlib.Core.Bool.{cond, _&&_};
-ghost use Prim.Native.Nat.{_+_, _*_};
+ghost use Prim.Native.Nat.{_+_, _*_, _<_, _^_};
 ghost use lib.Dec.{leb, eqb};
 ghost use lib.IntN.{pos};
 ghost use Rattle.common.specs.Answer.{numberOf, isGiven, orBlank};
@@ -27,10 +27,10 @@ pub struct Entries {
     pub scheds: [u64; 8],
 }
 
-// What was bought, sold, delivered and taken in the closed periods.
+// What each of the traders 1 to 4 bought and sold, and what was delivered and taken, in the closed periods.
 pub struct Totals {
-    pub bought: u32,
-    pub sold: u32,
+    pub bought: [u32; 4],
+    pub sold: [u32; 4],
     pub delivered: u32,
     pub taken: u32,
 }
@@ -151,8 +151,8 @@ fn first_record(terms: Terms, curves: Curves, size: u32, first: u32) -> Record
         low: none,
         high: none,
         totals: Totals {
-            bought: 0,
-            sold: 0,
+            bought: [0; 4],
+            sold: [0; 4],
             delivered: 0,
             taken: 0,
         },
@@ -268,13 +268,20 @@ fn sum_of(bounds: [u32; 8]) -> u64
     total
 }
 
+// What the traders bought, or sold, together, which four numbers of any bits can bring past 32 bits.
+fn sum_of_traders(each: [u32; 4]) -> u64
+    ensures { λ r. ⌜ (r ≡ sum each) × (r < 2 ^ 34) ⌝ }
+{
+    each[0] as u64 + each[1] as u64 + each[2] as u64 + each[3] as u64
+}
+
 // Bought and sold against the most, delivered and taken against the sums of the low and the high bounds.
 fn totals_hold(closed: u32, totals: Totals, low: [u32; 8], high: [u32; 8]) -> bool
-    ensures { λ r. ⌜ r ≡ (leb (totals .bought) (10000000 * closed) && leb (totals .sold) (10000000 * closed) && leb (totals .delivered) (sum low) && leb (totals .taken) (sum high)) ⌝ }
+    ensures { λ r. ⌜ r ≡ (leb (sum (totals .bought)) (10000000 * closed) && leb (sum (totals .sold)) (10000000 * closed) && leb (totals .delivered) (sum low) && leb (totals .taken) (sum high)) ⌝ }
 {
     let most = 10_000_000 * closed as u64;
-    (totals.bought as u64 <= most)
-        & (totals.sold as u64 <= most)
+    (sum_of_traders(totals.bought) <= most)
+        & (sum_of_traders(totals.sold) <= most)
         & (totals.delivered as u64 <= sum_of(low))
         & (totals.taken as u64 <= sum_of(high))
 }
@@ -302,10 +309,11 @@ fn state_passes(state: u32, size: u32, low_start: i64, high_start: i64) -> bool
 
 // state = first + bought − sold − delivered + taken
 fn balances(state: u32, first: u32, totals: Totals) -> bool
-    ensures { λ r. ⌜ r ≡ eqb (state + (totals .sold + totals .delivered)) (first + totals .bought + totals .taken) ⌝ }
+    ensures { λ r. ⌜ r ≡ eqb (state + (sum (totals .sold) + totals .delivered)) (first + sum (totals .bought) + totals .taken) ⌝ }
 {
-    let lost = totals.sold as u64 + totals.delivered as u64;
-    state as u64 + lost == first as u64 + totals.bought as u64 + totals.taken as u64
+    let bought = sum_of_traders(totals.bought);
+    let lost = sum_of_traders(totals.sold) + totals.delivered as u64;
+    state as u64 + lost == first as u64 + bought + totals.taken as u64
 }
 
 // Whether a record keeps its rule, and what the period after the closed ones begins with in each direction.

@@ -47,7 +47,10 @@ fn is_open(numbers: Numbers) -> bool {
 // Whether a record has a number of that key.
 fn is_key(key: u32) -> bool {
     let ones = key % 10;
-    (key < 8) | (10 < key) & (key < 69) & (0 < ones) & (ones < 9)
+    let once = (key < 4) | (key == 6) | (key == 7);
+    let of_period = (10 < key) & (key < 69) & (0 < ones) & (ones < 9);
+    let of_trader = (70 < key) & (key < 85) & (0 < ones) & (ones < 5);
+    once | of_period | of_trader
 }
 
 // Starts may be below 0.
@@ -69,7 +72,7 @@ fn most_of(key: u32) -> i64 {
 fn is_put(numbers: Numbers) -> bool {
     let key = value_u32(numbers, 0);
     (numbers.count == 2)
-        & are_within(numbers, 0, 1, 68)
+        & are_within(numbers, 0, 1, 84)
         & is_key(key)
         & (is_start(key) | are_within(numbers, 1, 2, most_of(key)))
 }
@@ -94,11 +97,11 @@ fn is_read(numbers: Numbers, held: usize) -> bool {
     (numbers.count == 2) & are_within(numbers, 0, 1, 65_535) & are_within(numbers, 1, 2, room)
 }
 
-// The lines over the readings: close P D T, energy or table LDC LDM LDR HDC HDM HDR, block, part N.
+// The lines over the readings: close P D T W, energy or table LDC LDM LDR HDC HDM HDR, block, part N.
 fn is_over(word: u64, numbers: Numbers) -> bool {
     let count = numbers.count;
     match word {
-        CLOSE => count == 3,
+        CLOSE => (count == 4) & are_within(numbers, 3, 4, MOST),
         ENERGY | TABLE => (count == 6) & are_within(numbers, 0, 6, MOST),
         BLOCK => count == 0,
         PART => (count == 1) & are_within(numbers, 0, 1, MOST),

@@ -4,13 +4,14 @@ use crate::text::value;
 use crate::text::value_u32;
 use ledger_record::Entries;
 use ledger_record::Record;
+use ledger_record::Totals;
 
 // A number of the record, or n where its key is the one that is put.
 fn put_at(key: u32, which: u32, n: u32, given: u32) -> u32 {
     if key == which { n } else { given }
 }
 
-// The first eight numbers of a record.
+// The numbers of a record that come once.
 fn with_field(given: Record, which: u32, n: u32) -> Record {
     let mut record = given;
     let mut totals = given.totals;
@@ -18,8 +19,6 @@ fn with_field(given: Record, which: u32, n: u32) -> Record {
     record.first = put_at(1, which, n, given.first);
     record.state = put_at(2, which, n, given.state);
     record.closed = put_at(3, which, n, given.closed);
-    totals.bought = put_at(4, which, n, totals.bought);
-    totals.sold = put_at(5, which, n, totals.sold);
     totals.delivered = put_at(6, which, n, totals.delivered);
     totals.taken = put_at(7, which, n, totals.taken);
     record.totals = totals;
@@ -45,6 +44,25 @@ fn with_entry(entries: Entries, which: u32, i: usize, numbers: Numbers) -> Entri
     }
 }
 
+// n as the total of the trader at the place i.
+fn with_trader(each: [u32; 4], i: usize, n: u32) -> [u32; 4] {
+    let mut totals = each;
+    if i < 4 {
+        totals[i] = n;
+    }
+    totals
+}
+
+// What a trader bought (7) or sold (else).
+fn with_total(given: Totals, which: u32, i: usize, n: u32) -> Totals {
+    let mut totals = given;
+    match which {
+        7 => totals.bought = with_trader(given.bought, i, n),
+        _ => totals.sold = with_trader(given.sold, i, n),
+    }
+    totals
+}
+
 // put K V
 pub fn put(numbers: Numbers, given: Record) -> Record {
     let key = value_u32(numbers, 0);
@@ -58,10 +76,13 @@ pub fn put(numbers: Numbers, given: Record) -> Record {
     let mut record = given;
     let low = given.low;
     let high = given.high;
+    let totals = given.totals;
     if key < 40 {
         record.low = with_entry(low, key / 10, place - 1, numbers);
-    } else {
+    } else if key < 70 {
         record.high = with_entry(high, key / 10 - 3, place - 1, numbers);
+    } else {
+        record.totals = with_total(totals, key / 10, place - 1, value_u32(numbers, 1));
     }
     record
 }

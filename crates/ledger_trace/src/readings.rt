@@ -41,12 +41,13 @@ pub fn read(numbers: Numbers, held: usize, readings: &mut [u16]) -> usize {
     end
 }
 
-// close P D T
+// close P D T W
 pub fn close(numbers: Numbers, given: Record, readings: &[u16]) -> Record {
     let p = value(numbers, 0);
     let delivered = value(numbers, 1);
     let taken = value(numbers, 2);
-    let closed = ledger::close_period(given, p, readings, delivered, taken);
+    let trader = value_u32(numbers, 3);
+    let closed = ledger::close_period(given, p, readings, delivered, taken, trader);
     let answer = closed.answer;
     write_line(b"close", ledger::close_number(answer) as u64);
     closed.record

@@ -52,14 +52,22 @@ fn write_starts(record: Record) {
     write_signed(next_start(high, record.closed, high_entries));
 }
 
+// The four traders' totals.
+fn write_each(each: [u32; 4]) {
+    write_small(each[0]);
+    write_small(each[1]);
+    write_small(each[2]);
+    write_small(each[3]);
+}
+
 pub fn write_record(record: Record) {
     write(b"record");
     write_small(record.closed);
     write_small(record.state);
     write_starts(record);
     let totals = record.totals;
-    write_small(totals.bought);
-    write_small(totals.sold);
+    write_each(totals.bought);
+    write_each(totals.sold);
     write_small(totals.delivered);
     write_small(totals.taken);
     write(b"\n");

@@ -21,15 +21,16 @@ use Rattle.bench.proofs.bench_closings.Tie as tie
 orBlank-kept : (answer : CloseAnswer) (closed before : Record) {a : Answer Record} → closeAnswerWith answer closed ≡ a → numberOf {A = Unit} (closeAnswerWith answer tt) ≢ 0 → orBlank before a ≡ before
 orBlank-kept closes.Closed closed before e n = absurd (n refl)
 orBlank-kept closes.Unusable closed before e n = rw (← e)
+orBlank-kept closes.Trader closed before e n = rw (← e)
 orBlank-kept closes.Purchase closed before e n = rw (← e)
 orBlank-kept closes.Readings closed before e n = rw (← e)
 orBlank-kept closes.Energy closed before e n = rw (← e)
 
 abbrev Inv-loop : tie.InvT-loop
-Inv-loop mw size first count purchase readings delivered taken after₀ i₀ after i = (i ≤ count) × (after ≡ closings i (openedRecord mw size first) (closingWith (toZ w64 purchase) readings (toZ w64 delivered) (toZ w64 taken)))
+Inv-loop mw size first count purchase readings delivered taken trader after₀ i₀ after i = (i ≤ count) × (after ≡ closings i (openedRecord mw size first) (closingWith (toZ w64 purchase) readings (toZ w64 delivered) (toZ w64 taken) trader))
 
 abbrev μ-loop : tie.MeasureT-loop
-μ-loop mw size first count purchase readings delivered taken after₀ i₀ after i = count - i
+μ-loop mw size first count purchase readings delivered taken trader after₀ i₀ after i = count - i
 
 opened-record-requires : tie.Need-opened-record-requires Inv-loop μ-loop
 opened-record-requires c κs = search needs
