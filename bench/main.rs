@@ -38,6 +38,7 @@ extern "C" {
         count: usize,
         delivered: i64,
         taken: i64,
+        trader: u32,
     ) -> u64;
     fn soe_report(input: *const u8, input_length: usize, output: *mut u8, output_length: usize) -> i64;
     fn soe_terms(
@@ -117,6 +118,7 @@ fn proved_closings(unit: [u32; 3], n: u32, c: &Closing, readings: &[u16]) -> u64
             readings.len(),
             c.delivered,
             c.taken,
+            c.trader,
         )
     }
 }
@@ -620,8 +622,8 @@ struct Record {
     closed: u32,
     low: Entries,
     high: Entries,
-    bought: u32,
-    sold: u32,
+    bought: [u32; 4],
+    sold: [u32; 4],
     delivered: u32,
     taken: u32,
 }
@@ -630,6 +632,7 @@ struct Closing {
     purchase: i64,
     delivered: i64,
     taken: i64,
+    trader: u32,
 }
 
 fn opening(t: &Terms, curves: &[Curve; 3], size: u32, first: u32) -> i64 {
@@ -674,8 +677,8 @@ fn open(unit: [u32; 3]) -> Record {
         closed: 0,
         low: Entries::default(),
         high: Entries::default(),
-        bought: 0,
-        sold: 0,
+        bought: [0; 4],
+        sold: [0; 4],
         delivered: 0,
         taken: 0,
     }
@@ -691,8 +694,8 @@ fn entries_hold(q: [u32; 3], closed: usize, e: &Entries, rows: &[Row; 8]) -> boo
     })
 }
 
-fn sum(bounds: &[u32; 8]) -> u64 {
-    bounds.iter().map(|&b| b as u64).sum()
+fn sum(numbers: &[u32]) -> u64 {
+    numbers.iter().map(|&n| n as u64).sum()
 }
 
 fn record_holds(r: &Record, low: &([Row; 8], i64), high: &([Row; 8], i64)) -> bool {
@@ -702,18 +705,19 @@ fn record_holds(r: &Record, low: &([Row; 8], i64), high: &([Row; 8], i64)) -> bo
     }
     let next = |t: &([Row; 8], i64)| if closed == 8 { t.1 } else { t.0[closed].start };
     let most = 10_000_000 * r.closed as u64;
+    let (bought, sold) = (sum(&r.bought), sum(&r.sold));
     opening(&r.terms, &r.curves, r.size, r.first) == 0
         && entries_hold(r.terms.low, closed, &r.low, &low.0)
         && entries_hold(r.terms.high, closed, &r.high, &high.0)
-        && r.bought as u64 <= most
-        && r.sold as u64 <= most
+        && bought <= most
+        && sold <= most
         && r.delivered as u64 <= sum(&r.low.bounds)
         && r.taken as u64 <= sum(&r.high.bounds)
         && r.state <= r.size
         && next(low) <= r.state as i64
         && next(high) <= (r.size - r.state) as i64
         && r.state as i64
-            == r.first as i64 + r.bought as i64 - r.sold as i64 - r.delivered as i64 + r.taken as i64
+            == r.first as i64 + bought as i64 - sold as i64 - r.delivered as i64 + r.taken as i64
 }
 
 fn close_entries(q: [u32; 3], e: &mut Entries, at: usize, bound: u32) {
@@ -728,6 +732,9 @@ fn close(r: &Record, c: &Closing, readings: &[u16]) -> Result<Record, i64> {
     let high = table(r.terms.high, &r.high.bounds);
     if r.closed == 8 || !record_holds(r, &low, &high) {
         return Err(-10);
+    }
+    if !(1..=4).contains(&c.trader) {
+        return Err(-19);
     }
     let at = r.closed as usize;
     let need = |t: &([Row; 8], i64)| (t.0[at].start + t.0[at].back as i64).max(0);
@@ -750,8 +757,9 @@ fn close(r: &Record, c: &Closing, readings: &[u16]) -> Result<Record, i64> {
     after.closed += 1;
     close_entries(r.terms.low, &mut after.low, at, low);
     close_entries(r.terms.high, &mut after.high, at, high);
-    after.bought += c.purchase.max(0) as u32;
-    after.sold += (-c.purchase).max(0) as u32;
+    let trader = c.trader as usize - 1;
+    after.bought[trader] += c.purchase.max(0) as u32;
+    after.sold[trader] += (-c.purchase).max(0) as u32;
     after.delivered += c.delivered as u32;
     after.taken += c.taken as u32;
     Ok(after)
@@ -1431,7 +1439,7 @@ fn same_closings(unit: [u32; 3], n: u32, c: &Closing, readings: &[u16], closed: 
 }
 
 fn closing(purchase: i64, delivered: i64, taken: i64) -> Closing {
-    Closing { purchase, delivered, taken }
+    Closing { purchase, delivered, taken, trader: 4 }
 }
 
 // A closing for each period, after those that are refused: as much is taken as delivered, so that all eight are carried out.
@@ -1450,6 +1458,9 @@ fn closings_of(unit: [u32; 3], periods: &[Vec<u16>]) -> Vec<Closing> {
         }
         for purchase in [50_001, -50_001, i64::MAX, i64::MIN] {
             same_closings(unit, 1, &c(purchase, low, high), readings, 0, 150_000);
+        }
+        for trader in [0, 5] {
+            same_closings(unit, 1, &Closing { trader, ..c(0, both, both) }, readings, 0, 150_000);
         }
         for unit in [[0, 300_000, 150_000], [100, 199_999, 100_000], [1001, 9_000_000, 4_500_000]] {
             same_closings(unit, 1, &c(0, both, both), readings, 0, 0);

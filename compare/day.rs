@@ -26,7 +26,7 @@ pub fn read(path: &str) -> String {
 }
 
 /// Gives the model a line, one of those that a day has.
-fn call(script: &mut Script, line: &str) {
+pub fn call(script: &mut Script, line: &str) {
     let mut words = line.split(' ');
     let word = words.next().unwrap_or("");
     let numbers: Vec<_> = words.map_while(|number| number.parse().ok()).collect();
@@ -47,8 +47,8 @@ fn call(script: &mut Script, line: &str) {
         ("read", &[value, count]) => script.read(value as u16, count as usize),
         ("check", &[p]) => script.check(p),
         ("propose", []) => script.propose(),
-        ("close", &[p, delivered, taken]) => {
-            script.close(p, delivered, taken);
+        ("close", &[p, delivered, taken, trader]) => {
+            script.close(p, delivered, taken, trader);
         }
         _ => {
             let input = format!("{line}\n");

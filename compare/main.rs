@@ -86,6 +86,9 @@ fn compare(seed: u64, rounds: u64, ledger_trace: &str, containment_table: &str) 
             runs.add(trace_cases::list(random), tally);
             runs.add(trace_cases::made_up(random), tally);
         }
+        for script in trace_cases::two_lists(random) {
+            runs.add(script, tally);
+        }
         runs.add(trace_cases::energy_refusals(random), tally);
         runs.add(trace_cases::both_rates(random), tally);
         runs.add(trace_cases::opening_causes(random), tally);

@@ -456,8 +456,9 @@ pub struct Record {
     pub first: Int,
     pub state: Int,
     pub closed: Int,
-    pub bought: Int,
-    pub sold: Int,
+    /// No. 7: "four totals each, for traders 1 to 4", here from place 0 on.
+    pub bought: [Int; 4],
+    pub sold: [Int; 4],
     pub delivered: Int,
     pub taken: Int,
     pub low: Entries,
@@ -516,7 +517,8 @@ impl Record {
         (low.start, high.start)
     }
 
-    /// "Record rule."
+    /// "Record rule." No. 7: "The record rule's limits bind the sums over traders. The state equals the first state plus all
+    /// purchases less all sales, less delivered, plus taken."
     pub fn good(&self) -> bool {
         if self.opening_refusal() != 0 || self.closed > 8 {
             return false;
@@ -530,16 +532,18 @@ impl Record {
                 && *entries == Entries::of(direction, &entries.bound[..closed])
         };
         let (low, high) = self.next();
+        let bought: Int = self.bought.iter().sum();
+        let sold: Int = self.sold.iter().sum();
         entries_good(&self.terms.low, &self.low)
             && entries_good(&self.terms.high, &self.high)
-            && self.bought <= 10_000_000 * self.closed
-            && self.sold <= 10_000_000 * self.closed
+            && bought <= 10_000_000 * self.closed
+            && sold <= 10_000_000 * self.closed
             && self.delivered <= self.low.bound.iter().sum()
             && self.taken <= self.high.bound.iter().sum()
             && (0..=self.size).contains(&self.state)
             && self.state >= low.start
             && self.size - self.state >= high.start
-            && self.state == self.first + self.bought - self.sold - self.delivered + self.taken
+            && self.state == self.first + bought - sold - self.delivered + self.taken
     }
 
     /// Cause 10: "eight periods closed, or record rule broken".
@@ -586,10 +590,21 @@ impl Record {
         bounds(&self.terms.low, &self.terms.high, &self.curves, readings)
     }
 
-    /// "Closing takes p, the readings, energy delivered low and energy taken high; checks 10, 8, 6, 9."
-    pub fn close(&mut self, p: Int, readings: &[u16], delivered: Int, taken: Int) -> i64 {
+    /// "Closing takes p, the readings, energy delivered low and energy taken high; checks 10, 8, 6, 9." No. 7: "19: trader not
+    /// 1 to 4, checked after 10"; "a closing carried out adds its purchase to that trader's totals and to nobody else's".
+    pub fn close(
+        &mut self,
+        p: Int,
+        readings: &[u16],
+        delivered: Int,
+        taken: Int,
+        trader: Int,
+    ) -> i64 {
         if self.stopped() {
             return 10;
+        }
+        if !(1..=4).contains(&trader) {
+            return 19;
         }
         if !self.accepts(p) {
             return 8;
@@ -612,8 +627,9 @@ impl Record {
         self.high = Entries::of(&self.terms.high, &self.high.bound[..=i]);
         self.closed += 1;
         self.state = state;
-        self.bought += p.max(0);
-        self.sold += (-p).max(0);
+        let trader = trader as usize - 1;
+        self.bought[trader] += p.max(0);
+        self.sold[trader] += (-p).max(0);
         self.delivered += delivered;
         self.taken += taken;
         0

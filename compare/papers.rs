@@ -316,7 +316,7 @@ fn ledger() -> Script {
         import_limit: 40_000,
     };
     script.open(&terms, 100_000, 100_000);
-    script.printed("record 0 100000 100000 0 0 0 0 0");
+    script.printed("record 0 100000 100000 0 0 0 0 0 0 0 0 0 0 0");
     for (p, number) in [(0, 0), (1, 8), (-1, 8)] {
         script.check(p);
         printed("purchase", number, script.record.check(p));

@@ -85,16 +85,10 @@ impl Script {
     fn expect_record(&mut self) {
         let r = &self.record;
         let (low, high) = r.next_starts();
-        let numbers = [
-            r.closed,
-            r.state,
-            low,
-            high,
-            r.bought,
-            r.sold,
-            r.delivered,
-            r.taken,
-        ];
+        let mut numbers = vec![r.closed, r.state, low, high];
+        numbers.extend(r.bought);
+        numbers.extend(r.sold);
+        numbers.extend([r.delivered, r.taken]);
         self.push(format!("record{}", join(&numbers)), None);
     }
 
@@ -175,9 +169,10 @@ impl Script {
         self.expect_record();
     }
 
-    pub fn close(&mut self, p: Int, delivered: Int, taken: Int) -> i64 {
-        self.feed("close", &[p, delivered, taken]);
-        let number = self.record.close(p, &self.readings, delivered, taken);
+    pub fn close(&mut self, p: Int, delivered: Int, taken: Int, trader: Int) -> i64 {
+        self.feed("close", &[p, delivered, taken, trader]);
+        let record = &mut self.record;
+        let number = record.close(p, &self.readings, delivered, taken, trader);
         self.readings.clear();
         self.expect("close", number, &[]);
         self.expect_record();
@@ -288,18 +283,20 @@ fn place(r: &mut Record, k: Int) -> &mut Int {
         1 => &mut r.first,
         2 => &mut r.state,
         3 => &mut r.closed,
-        4 => &mut r.bought,
-        5 => &mut r.sold,
         6 => &mut r.delivered,
         7 => &mut r.taken,
         11..=38 => entry(&mut r.low, k / 10 - 1, (k % 10) as usize - 1),
-        _ => entry(&mut r.high, k / 10 - 4, (k % 10) as usize - 1),
+        41..=68 => entry(&mut r.high, k / 10 - 4, (k % 10) as usize - 1),
+        71..=74 => &mut r.bought[k as usize - 71],
+        _ => &mut r.sold[k as usize - 81],
     }
 }
 
-/// What `put` can name: the eight numbers, and six entries of each period.
+/// What `put` can name: the numbers that come once, six entries of each period, and two totals of each trader.
 pub fn places() -> impl Iterator<Item = Int> {
-    (0..8).chain((1..=6).flat_map(|tens| (1..=8).map(move |i| 10 * tens + i)))
+    let periods = (1..=6).flat_map(|tens| (1..=8).map(move |i| 10 * tens + i));
+    let traders = (7..=8).flat_map(|tens| (1..=4).map(move |w| 10 * tens + w));
+    (0..4).chain(6..8).chain(periods).chain(traders)
 }
 
 /// A record's numbers with their names.

@@ -1,6 +1,7 @@
 //! Cases for ledger_trace: period energy, also by the containment curve's table, blocks and parts, lists of ledger calls,
 //! made-up records.
 
+use crate::day;
 use crate::host_cases::{any_direction, any_terms, good_bounds, good_direction, rising};
 use crate::model::{
     self, containment, regulation, Curve, Direction, Entries, Int, Rate, Record, Terms, RATES,
@@ -13,6 +14,9 @@ use std::ops::RangeInclusive;
 const MAX: Int = u32::MAX as Int;
 const I64: [Int; 2] = [i64::MIN as Int, i64::MAX as Int];
 const BAD_READINGS: [u16; 6] = [46_999, 53_001, 0, 1, 40_000, u16::MAX];
+const TRADERS: [Int; 4] = [1, 2, 3, 4];
+/// Beside the traders, and such as 8, 16 or 31 bits would take for them.
+const NO_TRADERS: [Int; 10] = [0, 5, 0, 5, 6, 257, 260, 65_537, (1 << 31) + 1, MAX];
 
 // Curves and readings
 
@@ -728,7 +732,7 @@ pub fn both_rates(random: &mut Random) -> Script {
         let energy = script.energy_and_table(&terms.low, &terms.high);
         script.open(&terms, size, first);
         script.read_all(readings);
-        let number = script.close(p, delivered, taken);
+        let number = script.close(p, delivered, taken, 1);
         (energy, number, script.record.clone())
     });
     assert!(outcomes.iter().all(|outcome| *outcome == outcomes[0]));
@@ -972,7 +976,7 @@ pub fn count_edges(runs: &mut Runs, tally: &mut Tally) {
         script.read(49_500, count);
         script.energy_and_table(&terms.low, &terms.high);
         script.read(49_500, count);
-        script.close(0, 50_000, 0);
+        script.close(0, 50_000, 0, 1);
         script.read(49_500, count);
         script.block();
         runs.add(script, tally);
@@ -1188,10 +1192,15 @@ fn purchases(script: &mut Script) {
     }
 }
 
-/// Closings that are refused, with causes 8, 6 and 9 in every company.
-fn refused_closing(random: &mut Random, script: &mut Script, readings: &[u16]) {
+/// Closings that are refused, with causes 8, 6 and 9 in every company, and 19 where not all traders are good.
+fn refused_closing(random: &mut Random, script: &mut Script, readings: &[u16], good_traders: bool) {
     let record = script.record.clone();
-    let causes = 1 + random.below(7);
+    let causes = 1 + random.below(if good_traders { 7 } else { 15 });
+    let trader = if causes & 8 != 0 {
+        random.pick(&NO_TRADERS)
+    } else {
+        random.pick(&TRADERS)
+    };
     let (floor, ceiling) = record.floor_and_ceiling();
     let p = if causes & 1 != 0 {
         random.pick(&[floor - 1, ceiling + 1, I64[1], I64[0] + record.state]) - record.state
@@ -1215,7 +1224,7 @@ fn refused_closing(random: &mut Random, script: &mut Script, readings: &[u16]) {
             _ => (delivered, taken) = (low + 1, high + 1),
         }
     }
-    script.close(p.clamp(I64[0], I64[1]), delivered, taken);
+    script.close(p.clamp(I64[0], I64[1]), delivered, taken, trader);
 }
 
 /// A closing with delivered and taken in their bounds; where the new state would be outside 0..size it is refused, and one
@@ -1240,15 +1249,21 @@ fn closing(random: &mut Random, script: &mut Script, readings: &[u16]) {
         }
         _ => {}
     }
-    if script.close(p, delivered, taken) != 0 {
+    let trader = random.pick(&TRADERS);
+    if script.close(p, delivered, taken, trader) != 0 {
         script.read_all(readings);
-        script.close(p, 0, 0);
+        script.close(p, 0, 0, trader);
     }
 }
 
-/// A whole list: opening, eight closings at either rate with other calls in between, the ninth.
+/// A whole list, with traders 0 to 5 and others.
 pub fn list(random: &mut Random) -> Script {
-    let mut script = Script::new("ledger list");
+    list_of(random, "ledger list", false)
+}
+
+/// Opening, eight closings at either rate with other calls in between, the ninth.
+fn list_of(random: &mut Random, topic: &'static str, good_traders: bool) -> Script {
+    let mut script = Script::new(topic);
     let curves = good_curves(random);
     script.curves(&curves);
     let terms = good_terms(random);
@@ -1276,26 +1291,77 @@ pub fn list(random: &mut Random) -> Script {
             script.check(p.clamp(I64[0], I64[1]));
         }
         for _ in 0..random.below(3) {
-            refused_closing(random, &mut script, &readings);
+            refused_closing(random, &mut script, &readings, good_traders);
         }
         closing(random, &mut script, &readings);
         // The unit passes, which is part of the record rule.
         assert!(script.record.good());
     }
-    after_the_eighth(random, &mut script);
+    after_the_eighth(random, &mut script, good_traders);
     script
 }
 
-/// "With n = 8 every call gives 10."
-fn after_the_eighth(random: &mut Random, script: &mut Script) {
+/// "With n = 8 every call gives 10", whoever the trader.
+fn after_the_eighth(random: &mut Random, script: &mut Script, good_traders: bool) {
     script.propose();
     let p = any_purchase(random, &script.record);
     script.check(p.clamp(I64[0], I64[1]));
     for rate in RATES {
         script.read(50_000, rate.period());
-        script.close(0, 0, 0);
+        script.close(0, 0, 0, random.pick(&TRADERS));
     }
-    script.close(I64[1], -1, I64[1]);
+    let trader = if good_traders {
+        random.pick(&TRADERS)
+    } else {
+        random.pick(&NO_TRADERS)
+    };
+    script.close(I64[1], -1, I64[1], trader);
+}
+
+/// A list, and the same with other traders, or with trader 1 for every closing. No. 7: "Two lists of calls from one opening that
+/// differ only in trader numbers, all 1 to 4, get the same answers, traders' totals apart, so a plan passes just as with one
+/// book."
+pub fn two_lists(random: &mut Random) -> [Script; 2] {
+    let one = list_of(random, "two lists", true);
+    let mut other = Script::new("two lists");
+    let one_book = random.once_in(3);
+    let calls = one.text.strip_prefix(&other.text).unwrap();
+    for line in calls.lines() {
+        match line.rsplit_once(' ') {
+            Some((closing, _)) if closing.starts_with("close ") => {
+                let trader = if one_book { 1 } else { random.pick(&TRADERS) };
+                day::call(&mut other, &format!("{closing} {trader}"));
+            }
+            _ => day::call(&mut other, line),
+        }
+    }
+    let (ones, others) = (one.answers(), other.answers());
+    assert_eq!(ones.len(), others.len());
+    for ((_, ones), (_, others)) in ones.into_iter().zip(others) {
+        let summed = |lines: Vec<&str>| lines.into_iter().map(in_one_book).collect::<Vec<_>>();
+        if one_book {
+            assert_eq!(summed(ones), others);
+        } else {
+            assert_eq!(summed(ones), summed(others));
+        }
+    }
+    [one, other]
+}
+
+/// A line of an answer, a record with the traders' totals summed under trader 1.
+fn in_one_book(line: &str) -> String {
+    let Some(numbers) = line.strip_prefix("record ") else {
+        return line.to_string();
+    };
+    let mut numbers: Vec<Int> = numbers.split(' ').map(|n| n.parse().unwrap()).collect();
+    for traders in [4..8, 8..12] {
+        let sum = numbers[traders.clone()].iter().sum();
+        numbers[traders.clone()].fill(0);
+        numbers[traders.start] = sum;
+    }
+    numbers
+        .iter()
+        .fold("record".to_string(), |line, n| format!("{line} {n}"))
 }
 
 // Made-up records
@@ -1330,8 +1396,41 @@ fn fit_purchases(random: &mut Random, r: &mut Record) {
         net = r.state - r.first;
     }
     let common = random.within(0, most - net.abs());
-    r.bought = net.max(0) + common;
-    r.sold = (-net).max(0) + common;
+    r.bought = by_trader(random, net.max(0) + common);
+    r.sold = by_trader(random, (-net).max(0) + common);
+}
+
+/// Four traders' totals with this sum: one has all of it, or they share it.
+fn by_trader(random: &mut Random, sum: Int) -> [Int; 4] {
+    let mut each = [0; 4];
+    let mut left = sum;
+    for _ in 0..random.below(4) {
+        let share = random.within(0, left);
+        each[random.below(4)] += share;
+        left -= share;
+    }
+    each[random.below(4)] += left;
+    each
+}
+
+/// The total of any one trader.
+fn any_of<'a>(random: &mut Random, each: &'a mut [Int; 4]) -> &'a mut Int {
+    &mut each[random.below(4)]
+}
+
+/// Four traders' totals that pass 32 bits together, one to three times: what 32 bits keep of their sum is `sum`.
+fn past_32_bits(random: &mut Random, sum: Int, times: Int) -> [Int; 4] {
+    let mut each = [0; 4];
+    let mut left = sum + (times << 32);
+    let first = random.below(4);
+    for i in 0..4 {
+        // As much as the others can still have is left to them.
+        let others = MAX * (3 - i as Int);
+        let share = random.within((left - others).max(0), left.min(MAX));
+        each[(first + i) % 4] = share;
+        left -= share;
+    }
+    each
 }
 
 /// A record with one clause of the rule broken, or just kept, the others as they can be.
@@ -1341,33 +1440,36 @@ fn one_clause(random: &mut Random, good: &Record) -> Record {
     let most = 10_000_000 * r.closed;
     let beyond = random.between(0, 1);
     let (low_next, high_next) = r.next_starts();
-    match random.below(14) {
+    let [bought, sold] = [r.bought, r.sold].map(|each| each.iter().sum::<Int>());
+    let times = random.between(1, 3);
+    match random.below(18) {
         0 => {
-            let more = most + beyond - r.bought.max(r.sold);
-            r.bought += more;
-            r.sold += more;
+            // The sums over the traders at their limit, or past it.
+            let more = most + beyond - bought.max(sold);
+            *any_of(random, &mut r.bought) += more;
+            *any_of(random, &mut r.sold) += more;
         }
         1 => {
             let more = r.low.bound.iter().sum::<Int>() + beyond - r.delivered;
             r.delivered += more;
-            r.bought += more;
+            *any_of(random, &mut r.bought) += more;
         }
         2 => {
             let more = r.high.bound.iter().sum::<Int>() + beyond - r.taken;
             r.taken += more;
-            r.sold += more;
+            *any_of(random, &mut r.sold) += more;
         }
         3 => {
             // The state just passes low, or not.
             let less = r.state - (low_next - beyond).max(0);
             r.state -= less;
-            r.sold += less;
+            *any_of(random, &mut r.sold) += less;
         }
         4 => {
             // The state just passes high, or not; at most a kWh past full.
             let more = (r.size - high_next).min(r.size) + beyond - r.state;
             r.state += more;
-            r.bought += more;
+            *any_of(random, &mut r.bought) += more;
         }
         5 if closed > 0 => {
             let mut bounds = r.low.bound;
@@ -1386,12 +1488,12 @@ fn one_clause(random: &mut Random, good: &Record) -> Record {
         8 => {
             let less = r.first - (r.terms.low.rev() - beyond);
             r.first -= less;
-            r.bought += less;
+            *any_of(random, &mut r.bought) += less;
         }
         9 => {
             let more = r.size - r.terms.high.rev() + beyond - r.first;
             r.first += more;
-            r.sold += more;
+            *any_of(random, &mut r.sold) += more;
         }
         10 => r.closed = random.pick(&[closed as Int + 1, 9, 10, 255, 256, 264, MAX]),
         11 => r.closed = (r.closed - 1).max(0),
@@ -1399,6 +1501,19 @@ fn one_clause(random: &mut Random, good: &Record) -> Record {
             // Entries of a period that is not closed, with the requirement's own numbers.
             let bounds = [0; 8];
             r.low = Entries::of(&r.terms.low, &bounds);
+        }
+        13 => {
+            // Each trader within the limit of the sum, at which most of them are; the state fits.
+            (r.bought, r.sold) = ([most; 4], [most; 4]);
+            *any_of(random, &mut r.bought) -= (sold - bought).max(0);
+            *any_of(random, &mut r.sold) -= (bought - sold).max(0);
+        }
+        14 => r.bought = past_32_bits(random, bought, times),
+        15 => r.sold = past_32_bits(random, sold, times),
+        16 => {
+            // The state fits.
+            r.bought = past_32_bits(random, bought, times);
+            r.sold = past_32_bits(random, sold, times);
         }
         _ => {
             r.size = (r.terms.low.rev() + r.terms.high.rev() - beyond).max(0);
@@ -1465,14 +1580,14 @@ pub fn made_up(random: &mut Random) -> Script {
     if good.closed < 8 {
         let rate = random.pick(&RATES);
         let readings = good_readings(random, Weather::Any, &curves, rate, STEPS);
-        refused_closing(random, &mut script, &readings);
+        refused_closing(random, &mut script, &readings, false);
         closing(random, &mut script, &readings);
         script.propose();
     }
     script
 }
 
-/// Closings on a record that breaks the rule: 10 before all else.
+/// Closings on a record that breaks the rule: 10 before all else, 19 among it.
 pub fn broken_closings(random: &mut Random) -> Script {
     let mut script = Script::new("made-up record");
     let curves = good_curves(random);
@@ -1499,6 +1614,7 @@ pub fn broken_closings(random: &mut Random) -> Script {
             p.clamp(I64[0], I64[1]),
             random.between(-1, 1),
             random.between(-1, 1),
+            random.between(0, 5),
         );
         script.propose();
     }
@@ -1512,7 +1628,7 @@ pub fn blank_record(random: &mut Random) -> Script {
     script.check(0);
     for rate in RATES {
         script.read(50_000, rate.period());
-        script.close(0, 0, 0);
+        script.close(0, 0, 0, random.between(0, 5));
     }
     for k in places() {
         script.put(k, random.pick(&[0, 1, 8, 100_000]));
@@ -1547,8 +1663,11 @@ pub fn malformed(runs: &mut Runs, tally: &mut Tally) {
         "propose 1\n",
         "clear 0\n",
         "block 0\n",
-        "close 0 0\n",
-        "close 0 0 0 0\n",
+        "close 0 0 1\n",
+        "close 0 0 0 1 1\n",
+        "close 0 0 0 -1\n",
+        "close 0 0 0 4294967296\n",
+        "close 0 0 0 4294967297\n",
         "curve\n",
         "curve 0\n",
         "curve 4\n",
@@ -1571,6 +1690,8 @@ pub fn malformed(runs: &mut Runs, tally: &mut Tally) {
         "read 50000 4294970896\n",
         "put 0 4294967296\n",
         "put 0 -1\n",
+        "put 4 0\n",
+        "put 5 0\n",
         "put 8 0\n",
         "put 9 0\n",
         "put 10 0\n",
@@ -1578,6 +1699,13 @@ pub fn malformed(runs: &mut Runs, tally: &mut Tally) {
         "put 40 0\n",
         "put 69 0\n",
         "put 70 0\n",
+        "put 71 -1\n",
+        "put 74 4294967296\n",
+        "put 75 0\n",
+        "put 80 0\n",
+        "put 81 4294967296\n",
+        "put 84 -1\n",
+        "put 85 0\n",
         "put -1 0\n",
         "put 31 -1\n",
         "put 61 9223372036854775808\n",

@@ -6,7 +6,7 @@ use Prim.Native.Nat.{ℕ, zero, suc, _+_, _*_, _≤_, _<_}
 use native.Mathlib.Nat.{add-zero, mul-suc, zero-add}
 use native.Mathlib.Numerals.{add-one}
 use native.Mathlib.Omega.{arith}
-use lib.ListN.{length, getD, take, drop, replicate, drop-of-length-le}
+use lib.ListN.{length, getD, set, take, drop, replicate, drop-of-length-le}
 use lib.Seq.{take-suc, drop-cons}
 use Rattle.common.specs.Lists.{sum, every, everyFrom, someEntry}
 use Rattle.common.proofs.Tests.{both-true, neither}
@@ -31,6 +31,20 @@ sum-entries k (n ∷ ns) h = omega (arith, h 0 (omega arith), sum-entries k ns (
 pub sum-take : (ns : List ℕ) (i : ℕ) → i < length ns → sum (take (i + 1) ns) ≡ sum (take i ns) + getD ns i 0
 unfolding sum
 sum-take ns i h = rw (add-one i, take-suc ns i 0 h, sum-append) (omega arith)
+
+-- an entry is part of the sum
+pub sum-part : (ns : List ℕ) (i : ℕ) → getD ns i 0 ≤ sum ns
+unfolding sum
+sum-part [] i = omega arith
+sum-part (n ∷ ns) zero = omega arith
+sum-part (n ∷ ns) (suc i) = omega (arith, sum-part ns i)
+
+-- and the sum has what is added to an entry
+pub sum-added : (ns : List ℕ) (i more : ℕ) → i < length ns → sum (set ns i (getD ns i 0 + more)) ≡ sum ns + more
+unfolding sum
+sum-added [] i more h = absurd (omega arith)
+sum-added (n ∷ ns) zero more h = omega arith
+sum-added (n ∷ ns) (suc i) more h = omega (arith, sum-added ns i more (omega arith))
 
 pub sum-zeros : (n : ℕ) → sum (replicate n 0) ≡ 0
 unfolding sum

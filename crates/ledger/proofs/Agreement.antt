@@ -27,23 +27,12 @@ use Rattle.ledger_record.specs.declared.Record.{Record}
 use Rattle.ledger_record.proofs.Openings.{LetThrough, let-through}
 use Rattle.ledger.specs.Calls.{Closing, newState, unusable, settles, closedRecord, recordClosed, low, high}
 use Rattle.ledger.specs.Calls as calls
-use Rattle.ledger.specs.Promise.{History, Battery, extend, bounds, startAfter, stateAfter, NoCause, total, battery, entriesAfter, totalsAfter, recordAfter}
+use Rattle.ledger.specs.Promise.{History, Battery, extend, bounds, startAfter, stateAfter, NoCause, bought, sold, delivered, taken, total, totalsByTrader, battery, entriesAfter, totalsAfter, recordAfter}
+use Rattle.ledger.proofs.ByTrader.{by-trader-next, all-next}
 use Rattle.ledger.proofs.Eight.{eight-sum}
 use Rattle.ledger.proofs.Entries.{start-here, need-here, entries-keep, entries-next}
 use Rattle.ledger.proofs.History as History′
 use Rattle.ledger.proofs.History.{Passes, accepts, proposal, settled, accepts-true, no-cause-accepts, state-next, new-is}
-
-abbrev bought : Closing → ℕ
-bought c = above (c .purchase)
-
-abbrev sold : Closing → ℕ
-sold c = below (c .purchase)
-
-abbrev delivered : Closing → ℕ
-delivered c = above (c .delivered)
-
-abbrev taken : Closing → ℕ
-taken c = above (c .taken)
 
 -- each entry of a list and of one that is longer by one
 most-next : (m : ℕ) (xs : List ℕ) (x : ℕ) → ((k : ℕ) → getD xs k 0 ≤ m) → x ≤ m → (k : ℕ) → getD (xs ++ (x ∷ [])) k 0 ≤ m
@@ -61,14 +50,14 @@ module _ (t : Terms) (curves : Curves) (size first : ℕ) (no-number : clear (op
 
   -- ---- the totals of a history
   pub record TotalsKept (h : History) : Type 0 where
-    pub bought-most : total bought h ≤ 10000000 * length h
-    pub sold-most : total sold h ≤ 10000000 * length h
+    pub bought-most : sum (totalsByTrader bought h) ≤ 10000000 * length h
+    pub sold-most : sum (totalsByTrader sold h) ≤ 10000000 * length h
     pub delivered-most : total delivered h ≤ sum (bounds (b .low) h)
     pub taken-most : total taken h ≤ sum (bounds (b .high) h)
     pub low-bounds : (k : ℕ) → getD (bounds (b .low) h) k 0 ≤ 500 * Q (t .low)
     pub high-bounds : (k : ℕ) → getD (bounds (b .high) h) k 0 ≤ 500 * Q (t .high)
     -- the state is first state + bought − sold − delivered + taken
-    pub adds-up : above (stateAfter b h) + total sold h + total delivered h ≡ first + below (stateAfter b h) + total bought h + total taken h
+    pub adds-up : above (stateAfter b h) + sum (totalsByTrader sold h) + total delivered h ≡ first + below (stateAfter b h) + sum (totalsByTrader bought h) + total taken h
 
   pub no-totals : TotalsKept []
   unfolding sum stateAfter
@@ -89,14 +78,16 @@ module _ (t : Terms) (curves : Curves) (size first : ℕ) (no-number : clear (op
       let yes = accepts-true b h p (no-cause-accepts b h c o) in
       let longer = length-append h (c ∷ []) in
       let is = state-next b h c in
+      let bought-next = all-next bought h c (o .trader) in
+      let sold-next = all-next sold h c (o .trader) in
       record {
-        bought-most = omega (arith, whole, v .in-size, w .bought-most, opens .size-most, one-sided p, sum-next bought h c);
-        sold-most = omega (arith, whole, v .in-size, w .sold-most, opens .size-most, one-sided p, sum-next sold h c);
+        bought-most = omega (arith, whole, v .in-size, w .bought-most, opens .size-most, one-sided p, bought-next);
+        sold-most = omega (arith, whole, v .in-size, w .sold-most, opens .size-most, one-sided p, sold-next);
         delivered-most = omega (arith, whole, o .possible .delivered-most, w .delivered-most, one-sided (c .delivered), sum-next delivered h c, sum-next (λ (c : Closing). b .low .bound (c .readings)) h c);
         taken-most = omega (arith, whole, o .possible .taken-most, w .taken-most, one-sided (c .taken), sum-next taken h c, sum-next (λ (c : Closing). b .high .bound (c .readings)) h c);
         low-bounds = rw map-append (most-next (500 * Q (t .low)) (bounds (b .low) h) (b .low .bound (c .readings)) (w .low-bounds) (bound-most (t .low) curves (opens .curves-hold) lowDeviation (c .readings) (o .possible .good)));
         high-bounds = rw map-append (most-next (500 * Q (t .high)) (bounds (b .high) h) (b .high .bound (c .readings)) (w .high-bounds) (bound-most (t .high) curves (opens .curves-hold) highDeviation (c .readings) (o .possible .good)));
-        adds-up = omega (arith, whole, o .possible .delivered-least, o .possible .taken-least, w .adds-up, new-is b h c, ap above is, ap below is, one-sided (c .delivered), one-sided (c .taken), sum-next bought h c, sum-next sold h c, sum-next delivered h c, sum-next taken h c);
+        adds-up = omega (arith, whole, o .possible .delivered-least, o .possible .taken-least, w .adds-up, new-is b h c, ap above is, ap below is, one-sided (c .delivered), one-sided (c .taken), bought-next, sold-next, sum-next delivered h c, sum-next taken h c);
       }
 
   module _ (h : History) (v : Passes b h) where
@@ -115,20 +106,22 @@ module _ (t : Terms) (curves : Curves) (size first : ℕ) (no-number : clear (op
           rw (
             eight-sum (bounds (b .low) h),
             eight-sum (bounds (b .high) h),
-            le-leb (total bought h) (10000000 * length h) (w .bought-most),
-            le-leb (total sold h) (10000000 * length h) (w .sold-most),
+            le-leb (sum (totalsByTrader bought h)) (10000000 * length h) (w .bought-most),
+            le-leb (sum (totalsByTrader sold h)) (10000000 * length h) (w .sold-most),
             le-leb (total delivered h) (sum (bounds (b .low) h)) (w .delivered-most),
             le-leb (total taken h) (sum (bounds (b .high) h)) (w .taken-most),
           )
 
-      fits-totals : pos first +ℤ pos (total bought h) -ℤ pos (total sold h) -ℤ pos (total delivered h) +ℤ pos (total taken h) ≡ stateAfter b h
+      fits-totals : pos first +ℤ pos (sum (totalsByTrader bought h)) -ℤ pos (sum (totalsByTrader sold h)) -ℤ pos (total delivered h) +ℤ pos (total taken h) ≡ stateAfter b h
       fits-totals =
-          let x = pos first +ℤ pos (total bought h) in
-          let y = x -ℤ pos (total sold h) in
+          let all-bought = pos (sum (totalsByTrader bought h)) in
+          let all-sold = pos (sum (totalsByTrader sold h)) in
+          let x = pos first +ℤ all-bought in
+          let y = x -ℤ all-sold in
           let z = y -ℤ pos (total delivered h) in
           let u = z +ℤ pos (total taken h) in
           same u (stateAfter b h)
-          (omega (arith, w .adds-up, integers.sum (pos first) (pos (total bought h)), less x (pos (total sold h)), less y (pos (total delivered h)), integers.sum z (pos (total taken h))))
+          (omega (arith, w .adds-up, integers.sum (pos first) all-bought, less x all-sold, less y (pos (total delivered h)), integers.sum z (pos (total taken h))))
 
       state-keeps : stateRule r ≡ true
       unfolding stateRule nextStart recordAfter totalsAfter startAfter
@@ -193,8 +186,8 @@ module _ (t : Terms) (curves : Curves) (size first : ℕ) (no-number : clear (op
           low = entries-next (t .low) (b .low .bound) h c (o .before-eight) i;
           high = entries-next (t .high) (b .high .bound) h c (o .before-eight) i;
           totals = record {
-            bought = sym (sum-next bought h c) i;
-            sold = sym (sum-next sold h c) i;
+            bought = by-trader-next bought h c (o .trader) i;
+            sold = by-trader-next sold h c (o .trader) i;
             delivered = sym (sum-next delivered h c) i;
             taken = sym (sum-next taken h c) i;
           };

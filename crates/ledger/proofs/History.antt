@@ -111,12 +111,12 @@ module _ (b : Battery) where
     high-safe : startAfter (b .high) (extend h c) ≤ℤ (pos (b .size) -ℤ newState (stateAfter b h) c)
     high-safe = omega (arith, whole, accepts-true h (c .purchase) accepted, new-is h c, start-next (b .high) h c, less (pos (b .size)) (newState (stateAfter b h) c))
 
-  pub safe : (h : History) (p : ℤ) → accepts h p ≡ true → (o : Outcome b) → ¬ Fails b h (ending b p o)
-  safe h p e o (inl f) =
-      let l = low-safe h (ending b p o) e (o .possible) in
+  pub safe : (h : History) (p : ℤ) (w : ℕ) → accepts h p ≡ true → (o : Outcome b) → ¬ Fails b h (ending b p w o)
+  safe h p w e o (inl f) =
+      let l = low-safe h (ending b p w o) e (o .possible) in
       omega (arith, whole)
-  safe h p e o (inr f) =
-      let l = high-safe h (ending b p o) e (o .possible) in
+  safe h p w e o (inr f) =
+      let l = high-safe h (ending b p w o) e (o .possible) in
       omega (arith, whole)
 
   -- ---- what every history keeps: it passes both directions at the next start
@@ -164,9 +164,9 @@ module _ (b : Battery) where
       by (no m) = rw (take-all k (extend h c) (omega (arith, length-append h (c ∷ [])))) (next-passes h c (all-passes all) x)
 
   -- ---- none of a closing's causes holds
-  pub no-cause : (h : History) (c : Closing) → length h < 8 → accepts h (c .purchase) ≡ true → b .good (c .readings) ≡ true → settled h c ≡ true → NoCause b h c
+  pub no-cause : (h : History) (c : Closing) → length h < 8 → (1 ≤ c .trader) × (c .trader ≤ 4) → accepts h (c .purchase) ≡ true → b .good (c .readings) ≡ true → settled h c ≡ true → NoCause b h c
   unfolding accepts settled
-  no-cause h c n a g s =
+  no-cause h c n trader a g s =
       let w = within-true (floor h) (stateAfter b h +ℤ c .purchase) (ceiling h) a in
       let delivered-in = within (pos 0) (c .delivered) (pos (b .low .bound (c .readings))) in
       let taken-in = within (pos 0) (c .taken) (pos (b .high .bound (c .readings))) in
@@ -176,6 +176,7 @@ module _ (b : Battery) where
       let t = within-true (pos 0) (c .taken) (pos (b .high .bound (c .readings))) (y .1) in
       record {
         before-eight = n;
+        trader = trader;
         floor = w .0;
         ceiling = w .1;
         possible = record { good = g; delivered-least = d .0; delivered-most = d .1; taken-least = t .0; taken-most = t .1 };
@@ -271,7 +272,7 @@ module _ (b : Battery) where
       by true e = inl (within-true (pos 0) s (pos (b .size)) e)
       by false e = inr (within-false (pos 0) s (pos (b .size)) e)
 
-  module _ (k : Still) (h : History) (p : ℤ) where
+  module _ (k : Still) (h : History) (p : ℤ) (w : ℕ) where
     still : Outcome b
     still = record {
       readings = k .readings;
@@ -287,31 +288,31 @@ module _ (b : Battery) where
     }
 
     pub refused-fails : accepts h p ≡ false → InSize b (stateAfter b h +ℤ p) →
-        (o : Outcome b) × Fails b h (ending b p o) × InSize b (newState (stateAfter b h) (ending b p o))
+        (o : Outcome b) × Fails b h (ending b p w o) × InSize b (newState (stateAfter b h) (ending b p w o))
     unfolding still
     refused-fails e i = (still, go (accepts-false h p e), omega (arith, whole, i, sum (stateAfter b h) p, new-is h c))
       where
         c : Closing
-        c = ending b p still
+        c = ending b p w still
 
         go : (¬ Reaches h p) ⊎ (¬ Under h p) → Fails b h c
         go (inl l) = inl (omega (arith, whole, i, sum (stateAfter b h) p, new-is h c, start-next (b .low) h c, k .low))
         go (inr l) = inr (omega (arith, whole, i, sum (stateAfter b h) p, new-is h c, start-next (b .high) h c, k .high, less (pos (b .size)) (newState (stateAfter b h) c)))
 
     -- refused exactly where state + p is past empty or full, or some outcome fails
-    pub refused-exactly : accepts h p ≡ false ↔ OutOfSize b (stateAfter b h +ℤ p) ⊎ ((o : Outcome b) × Fails b h (ending b p o))
+    pub refused-exactly : accepts h p ≡ false ↔ OutOfSize b (stateAfter b h +ℤ p) ⊎ ((o : Outcome b) × Fails b h (ending b p w o))
     refused-exactly = (λ e. to e (in-or-out (stateAfter b h +ℤ p)), λ f. from (accepts h p) refl f)
       where
         to : accepts h p ≡ false → InSize b (stateAfter b h +ℤ p) ⊎ OutOfSize b (stateAfter b h +ℤ p) →
-            OutOfSize b (stateAfter b h +ℤ p) ⊎ ((o : Outcome b) × Fails b h (ending b p o))
-        to e (inl i) = let w = refused-fails e i in inr (w .0, w .1)
+            OutOfSize b (stateAfter b h +ℤ p) ⊎ ((o : Outcome b) × Fails b h (ending b p w o))
+        to e (inl i) = let f = refused-fails e i in inr (f .0, f .1)
         to e (inr x) = inl x
 
-        never : accepts h p ≡ true → OutOfSize b (stateAfter b h +ℤ p) ⊎ ((o : Outcome b) × Fails b h (ending b p o)) → ⊥
+        never : accepts h p ≡ true → OutOfSize b (stateAfter b h +ℤ p) ⊎ ((o : Outcome b) × Fails b h (ending b p w o)) → ⊥
         never e (inl (inl x)) = omega (arith, whole, accepts-true h p e, sum (stateAfter b h) p)
         never e (inl (inr x)) = omega (arith, whole, accepts-true h p e, sum (stateAfter b h) p)
-        never e (inr w) = safe h p e (w .0) (w .1)
+        never e (inr f) = safe h p w e (f .0) (f .1)
 
-        from : (a : Bool) → accepts h p ≡ a → OutOfSize b (stateAfter b h +ℤ p) ⊎ ((o : Outcome b) × Fails b h (ending b p o)) → accepts h p ≡ false
+        from : (a : Bool) → accepts h p ≡ a → OutOfSize b (stateAfter b h +ℤ p) ⊎ ((o : Outcome b) × Fails b h (ending b p w o)) → accepts h p ≡ false
         from false e f = e
         from true e f = absurd (never e f)

@@ -1,4 +1,5 @@
 pub mod Agreement
+pub mod ByTrader
 pub mod Closings
 pub mod Directions
 pub mod Eight
@@ -6,5 +7,6 @@ pub mod Entries
 pub mod History
 pub mod Promise
 pub mod Settling
+pub mod Traders
 pub mod Usable
 pub mod NextPeriod

@@ -22,11 +22,19 @@ use Rattle.energy.proofs.Laws.{still-good, still-bound}
 use Rattle.ledger_record.specs.Opening.{openingCauses, firstRecord, opening}
 use Rattle.ledger_record.specs.declared.Record.{Record}
 use Rattle.ledger_record.proofs.Openings.{LetThrough, let-through}
-use Rattle.ledger.specs.Calls.{Closing, newState, unusable, checking, proposing, closingCauses, closing, recordClosed, settles, low, high}
+use Rattle.ledger.specs.Calls.{Closing, isTrader, newState, unusable, checking, proposing, closingCauses, closing, recordClosed, settles, low, high}
 use Rattle.ledger.specs.Calls as calls
 use Rattle.ledger.specs.Promise.{Call, check, propose, close, after, run, Gives, History, done, carriedOut, Battery, NoCause, Open, Promise, battery, stateAfter, entriesAfter, totalsAfter, recordAfter, Demand3}
 use Rattle.ledger.proofs.History.{Opened, Still, Passes, AllPass, all-passes, first-all, next-all, accepts, proposal, settled, no-cause, no-cause-accepts, no-cause-settled, proposal-nearest, safe, refused-exactly, refused-fails}
+use Rattle.ledger.proofs.ByTrader.{trader-in, is-trader}
 use Rattle.ledger.proofs.Agreement.{TotalsKept, no-totals, totals-next, rule-holds, usable-is, accepts-are, proposal-is, settles-are, closed-is}
+
+-- a closing leaves the closed record where it is carried out
+pub left-is : (c : Closing) (r : Record) → orBlank r (closing r c) ≡ cond (isGiven (closing r c)) (recordClosed r c) r
+unfolding closing
+left-is c r =
+    let new = recordClosed r c in
+    orBlank-is r (closingCauses r c) new ∙ ap (λ (g : Bool). cond g new r) (sym (given-is (closingCauses r c) new))
 
 module _ (t : Terms) (curves : Curves) (size first : ℕ) (no-number : clear (openingCauses t curves size first) ≡ true) where
   abbrev b : Battery
@@ -88,6 +96,7 @@ module _ (t : Terms) (curves : Curves) (size first : ℕ) (no-number : clear (op
     abbrev listCauses : Closing → List Cause
     listCauses c =
         cause 10 (eqb (length h) 8)
+        ∷ cause 19 (not (isTrader (c .trader)))
         ∷ cause 8 (not (accepts b h (c .purchase)))
         ∷ cause 6 (not (goodReadings (c .readings)))
         ∷ cause 9 (not (settled b h c))
@@ -103,12 +112,13 @@ module _ (t : Terms) (curves : Curves) (size first : ℕ) (no-number : clear (op
           let none-holds : (k : ℕ) → holdsOf k (listCauses c) ≡ false = λ k. clear-of k (listCauses c) (sym (given-exactly c) ∙ e) in
           let n = eqb-false (length h) 8 (none-holds 10) in
           no-cause b h c (omega (arith, n, passes .eight))
+          (trader-in (c .trader) (not-false (isTrader (c .trader)) (none-holds 19)))
           (not-false (accepts b h (c .purchase)) (none-holds 8))
           (not-false (goodReadings (c .readings)) (none-holds 6))
           (not-false (settled b h c) (none-holds 9)),
       λ o.
           let n : eqb (length h) 8 ≡ false = ne-eqb (length h) 8 (λ e. omega (arith, o .before-eight)) in
-          given-exactly c ∙ rw (n, no-cause-accepts b h c o, o .possible .good, no-cause-settled b h c o),
+          given-exactly c ∙ rw (n, is-trader (c .trader) (o .trader), no-cause-accepts b h c o, o .possible .good, no-cause-settled b h c o),
     )
 
     -- ---- a refused call leaves the record as it was
@@ -160,11 +170,11 @@ module _ (t : Terms) (curves : Curves) (size first : ℕ) (no-number : clear (op
             proposal-most = q .most;
             proposal-nearest = λ p e. q .nearest p (accepted-exactly p .0 e);
             accepted-or-refused = accepted-or-refused;
-            refused-exactly = λ p.
-                let w = refused-exactly b still h p in
-                (λ e. w .0 (refused-is p .0 e), λ f. refused-is p .1 (w .1 f));
-            accepted-passes = λ p e. safe b h p (accepted-exactly p .0 e);
-            refused-fails = λ p e. refused-fails b still h p (refused-is p .0 e);
+            refused-exactly = λ p w.
+                let x = refused-exactly b still h p w in
+                (λ e. x .0 (refused-is p .0 e), λ f. refused-is p .1 (x .1 f));
+            accepted-passes = λ p w e. safe b h p w (accepted-exactly p .0 e);
+            refused-fails = λ p w e. refused-fails b still h p w (refused-is p .0 e);
           }
 
     holds-here : Promise b h r
@@ -182,13 +192,6 @@ module _ (t : Terms) (curves : Curves) (size first : ℕ) (no-number : clear (op
   -- ---- a call keeps the agreement
   no-more : {r : Record} {h : History} → Agrees r h → Agrees r (h ++ [])
   no-more {r} {h} a = rw (append-nil h) a
-
-  -- a closing leaves the closed record where it is carried out
-  left-is : (c : Closing) (r : Record) → orBlank r (closing r c) ≡ cond (isGiven (closing r c)) (recordClosed r c) r
-  unfolding closing
-  left-is c r =
-      let new = recordClosed r c in
-      orBlank-is r (closingCauses r c) new ∙ ap (λ (g : Bool). cond g new r) (sym (given-is (closingCauses r c) new))
 
   step : (call : Call) (r : Record) (h : History) → Agrees r h → Agrees (after r call) (h ++ done r call)
   step (check p) r h a = no-more a

@@ -77,8 +77,8 @@ module _ (r : Record) where
 
   -- where the arrays have eight entries, the totals are in range
   pub record Kept : Type 0 where
-    pub bought-most : r .totals .bought ≤ 10000000 * r .closed
-    pub sold-most : r .totals .sold ≤ 10000000 * r .closed
+    pub bought-most : sum (r .totals .bought) ≤ 10000000 * r .closed
+    pub sold-most : sum (r .totals .sold) ≤ 10000000 * r .closed
     pub delivered-most : r .totals .delivered ≤ 4000000
     pub taken-most : r .totals .taken ≤ 4000000
     pub state-most : r .state ≤ r .size
@@ -88,8 +88,8 @@ module _ (r : Record) where
   kept low-long high-long e =
       let p = parts e in
       let f = opened e in
-      let bought-in = leb (r .totals .bought) (10000000 * r .closed) in
-      let sold-in = leb (r .totals .sold) (10000000 * r .closed) in
+      let bought-in = leb (sum (r .totals .bought)) (10000000 * r .closed) in
+      let sold-in = leb (sum (r .totals .sold)) (10000000 * r .closed) in
       let delivered-in = leb (r .totals .delivered) (sum (r .low .bounds)) in
       let t = both-true (bought-in && sold-in && delivered-in) (leb (r .totals .taken) (sum (r .high .bounds))) (p .totals-hold) in
       let d = both-true (bought-in && sold-in) delivered-in (t .0) in
@@ -98,8 +98,8 @@ module _ (r : Record) where
       let s₂ = both-true (leb (r .state) (r .size) && _) _ (s₃ .0) in
       let s₁ = both-true (leb (r .state) (r .size)) _ (s₂ .0) in
       record {
-        bought-most = leb-true (r .totals .bought) (10000000 * r .closed) (b .0);
-        sold-most = leb-true (r .totals .sold) (10000000 * r .closed) (b .1);
+        bought-most = leb-true (sum (r .totals .bought)) (10000000 * r .closed) (b .0);
+        sold-most = leb-true (sum (r .totals .sold)) (10000000 * r .closed) (b .1);
         delivered-most = omega (arith, leb-true (r .totals .delivered) (sum (r .low .bounds)) (d .1), sum-most (r .terms .low) (r .closed) (r .low) low-long (f .low-quantity) (p .low-holds));
         taken-most = omega (arith, leb-true (r .totals .taken) (sum (r .high .bounds)) (t .1), sum-most (r .terms .high) (r .closed) (r .high) high-long (f .high-quantity) (p .high-holds));
         state-most = leb-true (r .state) (r .size) (s₁ .0);

@@ -8,6 +8,7 @@ use borrow.Author.Tests.{le-leb, lt-leb}
 use lib.Dec.{leb, eqb}
 use lib.IntN.{ℤ}
 use Rattle.common.specs.Answer.{clear}
+use Rattle.common.specs.Lists.{sum}
 use Rattle.signed.proofs.Orders.{balance}
 use Rattle.terms.specs.declared.Quantities.{Quantities}
 use Rattle.ledger_record.specs.Opening.{openingCauses}
@@ -31,7 +32,7 @@ module _ (r : Record) where
       && entriesRule (r .terms .low) (r .closed) (r .low)
       && entriesRule (r .terms .high) (r .closed) (r .high)
       && totalsRule r
-      && (passesBoth (r .state) (r .size) low high && eqb (r .state + (r .totals .sold + r .totals .delivered)) (r .first + r .totals .bought + r .totals .taken))
+      && (passesBoth (r .state) (r .size) low high && eqb (r .state + (sum (r .totals .sold) + r .totals .delivered)) (r .first + sum (r .totals .bought) + r .totals .taken))
 
   pub rule-by-next : recordRule r ≡ tested (nextAt (r .terms .low) (r .closed) (r .low) .start) (nextAt (r .terms .high) (r .closed) (r .high) .start)
   unfolding recordRule stateRule
@@ -41,7 +42,7 @@ module _ (r : Record) where
       by (yes h) =
           let t = r .totals in
           rw (
-            balance (r .state) (r .first) (t .bought) (t .sold) (t .delivered) (t .taken),
+            balance (r .state) (r .first) (sum (t .bought)) (sum (t .sold)) (t .delivered) (t .taken),
             next-start-is (r .terms .low) (r .closed) (r .low) h,
             next-start-is (r .terms .high) (r .closed) (r .high) h,
           )
@@ -54,7 +55,7 @@ module _ (r : Record) where
       → high ≡ directionOf (r .terms .high) (r .closed) (r .high)
       → totals ≡ totalsRule r
       → passes ≡ passesBoth (r .state) (r .size) (low .next .start) (high .next .start)
-      → fits ≡ eqb (r .state + (r .totals .sold + r .totals .delivered)) (r .first + r .totals .bought + r .totals .taken)
+      → fits ≡ eqb (r .state + (sum (r .totals .sold) + r .totals .delivered)) (r .first + sum (r .totals .bought) + r .totals .taken)
       → record { holds = leb (r .closed) 8 && opens && low .holds && high .holds && totals && (passes && fits); low = low .next; high = high .next } ≡ standingOf r
   unfolding standingOf
   standing-is opens totals passes fits low high o l h t p f = rw (p, o, l, h, t, f, rule-by-next)
