@@ -22,7 +22,7 @@ use Rattle.ledger_record.specs.Rule.{totalsRule, stateRule, recordRule}
 use Rattle.ledger_record.specs.declared.Record.{Record}
 use Rattle.ledger.specs.Calls.{Closing, closingWith, isTrader, ofTrader, unusable, accepts, proposal, checking, proposing, closedRecord, recordClosed, closingCauses, closing}
 use Rattle.ledger.specs.Promise.{Call, check, propose, close, after, run, History, done, carriedOut, bought, sold, total, totalOf, totalsByTrader, totalsAfter, recordAfter}
-use Rattle.ledger.specs.Traders.{trader1Has, oneBook, byTrader1, inOneBook, answerTo, answers, tradersGood, DifferInTraders, TwoLists, totalsOf01, OneTrader}
+use Rattle.ledger.specs.Traders.{trader1Has, oneBook, byTrader1, inOneBook, answerTo, answers, traderGood, DifferInTraders, TwoLists, totalsOf01, OneTrader}
 use Rattle.ledger.proofs.ByTrader.{OneToFour, trader-in, is-trader, sum-with}
 use Rattle.ledger.proofs.Promise.{left-is, demand-3}
 
@@ -92,12 +92,12 @@ module _ (r : Record) (four : Four r) (c : Closing) (i : OneToFour (c .trader)) 
 
 -- ---- call by call
 module _ (r : Record) (four : Four r) where
-  answer-same : (call : Call) → tradersGood call ≡ true → answerTo (oneBook r) (byTrader1 call) ≡ answerTo r call
+  answer-same : (call : Call) → traderGood call ≡ true → answerTo (oneBook r) (byTrader1 call) ≡ answerTo r call
   answer-same (check p) good = rw (checking-same r p)
   answer-same propose good = rw (proposing-same r)
   answer-same (close c) good = rw (closing-same r four c (trader-in (c .trader) good), in-book-once (closing r c))
 
-  after-same : (call : Call) → tradersGood call ≡ true → after (oneBook r) (byTrader1 call) ≡ oneBook (after r call)
+  after-same : (call : Call) → traderGood call ≡ true → after (oneBook r) (byTrader1 call) ≡ oneBook (after r call)
   after-same (check p) good = refl
   after-same propose good = refl
   after-same (close c) good = ap (orBlank (oneBook r)) (closing-same r four c (trader-in (c .trader) good)) ∙ left-in-book r (closing r c)
@@ -115,18 +115,18 @@ module _ (r : Record) (four : Four r) where
         sold = length-set (r .totals .sold) (c .trader - 1) (ofTrader (r .totals .sold) (c .trader) + below (c .purchase)) ∙ four .sold;
       }
 
-answers-same : (calls : List Call) (r : Record) → Four r → every tradersGood calls ≡ true → answers (oneBook r) (map byTrader1 calls) ≡ answers r calls
+answers-same : (calls : List Call) (r : Record) → Four r → every traderGood calls ≡ true → answers (oneBook r) (map byTrader1 calls) ≡ answers r calls
 unfolding answers every
 answers-same [] r four good = refl
 answers-same (call ∷ calls) r four good =
-    let g = both-true (tradersGood call) (every tradersGood calls) good in
+    let g = both-true (traderGood call) (every traderGood calls) good in
     rw (answer-same r four call (g .0), after-same r four call (g .0), answers-same calls (after r call) (four-after r four call) (g .1))
 
-run-same : (calls : List Call) (r : Record) → Four r → every tradersGood calls ≡ true → run (oneBook r) (map byTrader1 calls) ≡ oneBook (run r calls)
+run-same : (calls : List Call) (r : Record) → Four r → every traderGood calls ≡ true → run (oneBook r) (map byTrader1 calls) ≡ oneBook (run r calls)
 unfolding every
 run-same [] r four good = refl
 run-same (call ∷ calls) r four good =
-    let g = both-true (tradersGood call) (every tradersGood calls) good in
+    let g = both-true (traderGood call) (every traderGood calls) good in
     rw (after-same r four call (g .0)) (run-same calls (after r call) (four-after r four call) (g .1))
 
 -- ---- closings of trader 1 alone

@@ -76,15 +76,15 @@ answers r (call ∷ calls) = answerTo r call ∷ answers (after r call) calls
 -- ---- two lists
 
 -- checking and proposing name no trader
-abbrev pub tradersGood : Call → Bool
-tradersGood (check p) = true
-tradersGood propose = true
-tradersGood (close c) = isTrader (c .trader)
+abbrev pub traderGood : Call → Bool
+traderGood (check p) = true
+traderGood propose = true
+traderGood (close c) = isTrader (c .trader)
 
 -- all traders are 1 to 4, and with trader 1 for every closing the two lists are one
 pub record DifferInTraders (calls others : List Call) : Type 0 where
-  pub good : every tradersGood calls ≡ true
-  pub others-good : every tradersGood others ≡ true
+  pub good : every traderGood calls ≡ true
+  pub others-good : every traderGood others ≡ true
   pub else-same : map byTrader1 calls ≡ map byTrader1 others
 
 -- on the record r₀ that opening returned

@@ -225,9 +225,11 @@ fn closed_totals(
     requires { ⌜ TotalsFit totals purchase delivered taken trader ⌝ }
     ensures { λ r. ⌜ r ≡ closedTotals totals purchase delivered taken trader ⌝ }
 {
+    let bought = totals.bought;
+    let sold = totals.sold;
     Totals {
-        bought: added_to(trader, totals.bought, signed::above_zero(purchase)),
-        sold: added_to(trader, totals.sold, signed::below_zero(purchase)),
+        bought: added_to(trader, bought, signed::above_zero(purchase)),
+        sold: added_to(trader, sold, signed::below_zero(purchase)),
         delivered: total_with(totals.delivered, signed::above_zero(delivered)),
         taken: total_with(totals.taken, signed::above_zero(taken)),
     }

@@ -280,8 +280,10 @@ fn totals_hold(closed: u32, totals: Totals, low: [u32; 8], high: [u32; 8]) -> bo
     ensures { λ r. ⌜ r ≡ (leb (sum (totals .bought)) (10000000 * closed) && leb (sum (totals .sold)) (10000000 * closed) && leb (totals .delivered) (sum low) && leb (totals .taken) (sum high)) ⌝ }
 {
     let most = 10_000_000 * closed as u64;
-    (sum_of_traders(totals.bought) <= most)
-        & (sum_of_traders(totals.sold) <= most)
+    let bought = totals.bought;
+    let sold = totals.sold;
+    (sum_of_traders(bought) <= most)
+        & (sum_of_traders(sold) <= most)
         & (totals.delivered as u64 <= sum_of(low))
         & (totals.taken as u64 <= sum_of(high))
 }
@@ -311,9 +313,10 @@ fn state_passes(state: u32, size: u32, low_start: i64, high_start: i64) -> bool
 fn balances(state: u32, first: u32, totals: Totals) -> bool
     ensures { λ r. ⌜ r ≡ eqb (state + (sum (totals .sold) + totals .delivered)) (first + sum (totals .bought) + totals .taken) ⌝ }
 {
-    let bought = sum_of_traders(totals.bought);
-    let lost = sum_of_traders(totals.sold) + totals.delivered as u64;
-    state as u64 + lost == first as u64 + bought + totals.taken as u64
+    let bought = totals.bought;
+    let sold = totals.sold;
+    let lost = sum_of_traders(sold) + totals.delivered as u64;
+    state as u64 + lost == first as u64 + sum_of_traders(bought) + totals.taken as u64
 }
 
 // Whether a record keeps its rule, and what the period after the closed ones begins with in each direction.

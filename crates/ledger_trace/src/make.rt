@@ -56,9 +56,11 @@ fn with_trader(each: [u32; 4], i: usize, n: u32) -> [u32; 4] {
 // What a trader bought (7) or sold (else).
 fn with_total(given: Totals, which: u32, i: usize, n: u32) -> Totals {
     let mut totals = given;
+    let bought = given.bought;
+    let sold = given.sold;
     match which {
-        7 => totals.bought = with_trader(given.bought, i, n),
-        _ => totals.sold = with_trader(given.sold, i, n),
+        7 => totals.bought = with_trader(bought, i, n),
+        _ => totals.sold = with_trader(sold, i, n),
     }
     totals
 }

@@ -66,8 +66,10 @@ pub fn write_record(record: Record) {
     write_small(record.state);
     write_starts(record);
     let totals = record.totals;
-    write_each(totals.bought);
-    write_each(totals.sold);
+    let bought = totals.bought;
+    let sold = totals.sold;
+    write_each(bought);
+    write_each(sold);
     write_small(totals.delivered);
     write_small(totals.taken);
     write(b"\n");
