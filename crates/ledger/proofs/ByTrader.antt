@@ -3,6 +3,7 @@ use mathlib.Core.Path.{_≡_, refl, sym, ap, _∙_}
 use mathlib.Core.Bool.{true, cond}
 use mathlib.Core.List.{List, [], _∷_, map}
 use Prim.Native.Nat.{ℕ, zero, suc, _+_, _-_, _≤_}
+use native.Mathlib.Nat.{add-zero}
 use native.Mathlib.Omega.{arith}
 use borrow.Author.Tests.{leb-true, le-leb}
 use lib.Dec.{leb, eqb}
@@ -29,13 +30,16 @@ pub sum-with : (w : ℕ) (each : List ℕ) (more : ℕ) → OneToFour w → leng
 sum-with w each more i four = sum-added each (w - 1) more (omega (arith, i, four))
 
 module _ (f : Closing → ℕ) (h : History) (c : Closing) (i : OneToFour (c .trader)) where
+  as-it-was : (w : ℕ) → totalOf f h w + 0 ≡ totalOf f h w
+  as-it-was w = add-zero (totalOf f h w)
+
   -- a total of each trader with what the closing adds, where its trader is w
   with-closing : (w : ℕ) → OneToFour w → addedTo w (totalsByTrader f h) (f c) ≡ map (λ (v : ℕ). totalOf f h v + cond (eqb w v) (f c) 0) (1 ∷ 2 ∷ 3 ∷ 4 ∷ [])
   with-closing zero j = absurd (omega (arith, j))
-  with-closing (suc zero) j = refl
-  with-closing (suc (suc zero)) j = refl
-  with-closing (suc (suc (suc zero))) j = refl
-  with-closing (suc (suc (suc (suc zero)))) j = refl
+  with-closing (suc zero) j = rw (as-it-was 2, as-it-was 3, as-it-was 4)
+  with-closing (suc (suc zero)) j = rw (as-it-was 1, as-it-was 3, as-it-was 4)
+  with-closing (suc (suc (suc zero))) j = rw (as-it-was 1, as-it-was 2, as-it-was 4)
+  with-closing (suc (suc (suc (suc zero)))) j = rw (as-it-was 1, as-it-was 2, as-it-was 3)
   with-closing (suc (suc (suc (suc (suc w))))) j = absurd (omega (arith, j))
 
   next-of : (w : ℕ) → totalOf f (extend h c) w ≡ totalOf f h w + cond (eqb (c .trader) w) (f c) 0

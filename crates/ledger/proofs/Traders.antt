@@ -62,11 +62,12 @@ in-book-once (given r) = ap given (once r)
 
 checked-in-book : (causes : List Cause) (r : Record) → inOneBook (checked causes r) ≡ checked causes (oneBook r)
 checked-in-book [] r = refl
-checked-in-book (c ∷ causes) r = by (c .holds)
+checked-in-book (c ∷ causes) r = by (c .holds) (checked-in-book causes r)
   where
-    by : (b : Bool) → inOneBook (cond b (refused (c .number)) (checked causes r)) ≡ cond b (refused (c .number)) (checked causes (oneBook r))
-    by true = refl
-    by false = checked-in-book causes r
+    by : (b : Bool) → inOneBook (checked causes r) ≡ checked causes (oneBook r)
+        → inOneBook (cond b (refused (c .number)) (checked causes r)) ≡ cond b (refused (c .number)) (checked causes (oneBook r))
+    by true e = refl
+    by false e = e
 
 left-in-book : (r : Record) (a : Answer Record) → orBlank (oneBook r) (inOneBook a) ≡ oneBook (orBlank r a)
 left-in-book r (refused number) = refl
@@ -103,12 +104,12 @@ module _ (r : Record) (four : Four r) where
   after-same (close c) good = ap (orBlank (oneBook r)) (closing-same r four c (trader-in (c .trader) good)) ∙ left-in-book r (closing r c)
 
   four-after : (call : Call) → Four (after r call)
+  unfolding closedRecord
   four-after (check p) = four
   four-after propose = four
   four-after (close c) = rw (left-is c r) (by (isGiven (closing r c)))
     where
       by : (g : Bool) → Four (cond g (recordClosed r c) r)
-      unfolding closedRecord
       by false = four
       by true = record {
         bought = length-set (r .totals .bought) (c .trader - 1) (ofTrader (r .totals .bought) (c .trader) + above (c .purchase)) ∙ four .bought;
@@ -127,7 +128,7 @@ unfolding every
 run-same [] r four good = refl
 run-same (call ∷ calls) r four good =
     let g = both-true (traderGood call) (every traderGood calls) good in
-    rw (after-same r four call (g .0)) (run-same calls (after r call) (four-after r four call) (g .1))
+    ap (λ (s : Record). run s (map byTrader1 calls)) (after-same r four call (g .0)) ∙ run-same calls (after r call) (four-after r four call) (g .1)
 
 -- ---- closings of trader 1 alone
 
@@ -152,7 +153,7 @@ carried-by-one (call ∷ calls) r =
         by false = refl
 
 -- a choice of nothing, and of two numbers' sum
-none-chosen : (b : Bool) → 0 ≡ cond b 0 0
+none-chosen : (b : Bool) → _≡_ {A = ℕ} 0 (cond b 0 0)
 none-chosen true = refl
 none-chosen false = refl
 
@@ -167,7 +168,7 @@ module _ (f : Closing → ℕ) (w : ℕ) where
   one-of [] good = none-chosen (eqb 1 w)
   one-of (c ∷ h) good =
       let g = both-true (byOne c) (every byOne h) good in
-      rw (eqb-true (c .trader) 1 (g .0), one-of h (g .1)) (both-chosen (eqb 1 w) (f c) (total f h))
+      ap (λ (n : ℕ). cond (eqb n w) (f c) 0 + totalOf f h w) (eqb-true (c .trader) 1 (g .0)) ∙ rw (one-of h (g .1)) (both-chosen (eqb 1 w) (f c) (total f h))
 
 by-one : (f : Closing → ℕ) (h : History) → every byOne h ≡ true → totalsByTrader f h ≡ trader1Has (total f h)
 by-one f h good = rw (one-of f 1 h good, one-of f 2 h good, one-of f 3 h good, one-of f 4 h good)

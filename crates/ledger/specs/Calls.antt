@@ -210,7 +210,7 @@ settling low high size delivered taken new = cond (settles low high size deliver
 
 -- `added_to`: the trader has a total, which is a u32 with what is added
 pub record TotalFits (w : ℕ) (each : List ℕ) (more : ℕ) : Type 0 where
-  pub trader : isTrader w ≡ true
+  pub trader : (1 ≤ w) × (w ≤ 4)
   pub fits : ofTrader each w + more < 2 ^ 32
 
 -- `closed_totals`: each total with one more closing is a u32

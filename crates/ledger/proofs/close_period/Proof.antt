@@ -1,7 +1,7 @@
 -- `ledger::close_period` meets its contract, by its causes in their order. Assumes nothing.
 use mathlib.Core.Path.{_≡_, refl, sym, ap, _∙_}
 use mathlib.Core.Bool.{Bool, true, false, cond, _&&_}
-use Prim.Native.Nat.{ℕ}
+use Prim.Native.Nat.{ℕ, _-_}
 use native.Mathlib.Omega.{arith}
 use borrow.Author.Needs.{needs}
 use borrow.Author.Tests.{ltb-false, not-false}
@@ -10,6 +10,7 @@ use lib.IntN.{ℤ, pos}
 use lib.ListN.{length}
 use mir.Facts.{toZ-ofZ}
 use Rattle.common.specs.Answer.{given}
+use Rattle.common.proofs.Lists.{sum-part}
 use Rattle.common.proofs.Tests.{both-true}
 use Rattle.signed.specs.Sign.{above, within}
 use Rattle.terms.specs.Terms.{Q}
@@ -19,7 +20,8 @@ use Rattle.ledger_record.specs.declared.Record.{Record}
 use Rattle.ledger_record.proofs.Openings.{LetThrough}
 use Rattle.ledger_record.proofs.Kept.{Kept, kept, opened}
 use Rattle.ledger.specs.declared.Settled.the-variants.{Not, To}
-use Rattle.ledger.specs.Calls.{unusable, accepts, moved, settles, TotalsFit, closing}
+use Rattle.ledger.specs.Calls.{unusable, isTrader, accepts, moved, settles, TotalsFit, closing}
+use Rattle.ledger.proofs.ByTrader.{trader-in}
 use Rattle.ledger.proofs.Closings.{accepted-most, no-bounds, BoundsAre, bounds-are, not-settled, settled-to}
 use Rattle.ledger.proofs.NextPeriod.{unusable-is, low-fits, high-fits, accepts-is}
 use Rattle.ledger.proofs.Settling.{in-bounds}
@@ -59,28 +61,38 @@ module _ (c : tie.Else1) where
   kept-here : Kept (start .args .given)
   kept-here = kept _ (eight start .0) (eight start .1) (rule-kept _ can-use)
 
--- ---- once the purchase is tested
-abbrev usable : tie.After-is-accepted → tie.Else1
-usable c = c .before .before .before
+-- ---- once 19 does not hold either
+abbrev usable : tie.Else2 → tie.Else1
+usable c = c .before .before
 
-accepted-is : (c : tie.After-is-accepted) → let a = start (usable c) .args in c .is-accepted .result ≡ accepts (a .given) (a .purchase)
+trader-good : (c : tie.Else2) → isTrader (start (usable c) .args .trader) ≡ true
+trader-good c = sym (c .before .is-trader .ensures) ∙ not-false (c .before .is-trader .result) (c .if2 .left)
+
+-- ---- once the purchase is tested
+abbrev named : tie.After-is-accepted → tie.Else2
+named c = c .before .before .before
+
+accepted-is : (c : tie.After-is-accepted) → let a = start (usable (named c)) .args in c .is-accepted .result ≡ accepts (a .given) (a .purchase)
 accepted-is c =
-    let u = usable c in
+    let u = usable (named c) in
     accepts-is _ _ (stands u .standing-of .ensures) (can-use u) (start u .args .purchase) (rw (toZ-ofZ (start u .fits .purchase)) at (c .is-accepted .ensures))
 
-accepted : (c : tie.Else2) → let a = start (usable (c .before)) .args in accepts (a .given) (a .purchase) ≡ true
-accepted c = sym (accepted-is (c .before)) ∙ not-false (c .before .is-accepted .result) (c .if2 .left)
+accepted : (c : tie.Else3) → let a = start (usable (named (c .before))) .args in accepts (a .given) (a .purchase) ≡ true
+accepted c = sym (accepted-is (c .before)) ∙ not-false (c .before .is-accepted .result) (c .if3 .left)
 
 -- ---- and once there are bounds, and settling has its answer
 module _ (c : tie.After-settle) where
   abbrev energy-here : tie.After-period-energy
   energy-here = c .before .before .before .before
 
-  abbrev bought : tie.Else2
+  abbrev bought : tie.Else3
   bought = energy-here .before .before .before .before .before
 
+  abbrev by-trader : tie.Else2
+  by-trader = named (bought .before)
+
   abbrev on : tie.Else1
-  on = usable (bought .before)
+  on = usable by-trader
 
   abbrev g : Record
   g = start on .args .given
@@ -106,7 +118,7 @@ module _ (c : tie.After-settle) where
       rw (toZ-ofZ (f .purchase), toZ-ofZ (f .delivered), toZ-ofZ (f .taken)) at (c .settle .ensures)
 
   -- the totals stay in range
-  totals-fit : test ≡ true → let a = start on .args in TotalsFit (g .totals) (a .purchase) (a .delivered) (a .taken)
+  totals-fit : test ≡ true → let a = start on .args in TotalsFit (g .totals) (a .purchase) (a .delivered) (a .taken) (a .trader)
   totals-fit e =
       let a = start on .args in
       let k = kept-here on in
@@ -118,9 +130,10 @@ module _ (c : tie.After-settle) where
       let b = bounds-here in
       let l = bound-most (g .terms .low) (g .curves) (f .curves-hold) lowDeviation (now (a .readings)) (b .good) in
       let h = bound-most (g .terms .high) (g .curves) (f .curves-hold) highDeviation (now (a .readings)) (b .good) in
+      let w = trader-in (a .trader) (trader-good by-trader) in
       record {
-        bought-fits = omega (arith, p, k .bought-most, n);
-        sold-fits = omega (arith, p, k .sold-most, n);
+        bought-fits = record { trader = w; fits = omega (arith, p, k .bought-most, n, sum-part (g .totals .bought) (a .trader - 1)) };
+        sold-fits = record { trader = w; fits = omega (arith, p, k .sold-most, n, sum-part (g .totals .sold) (a .trader - 1)) };
         delivered-fits = omega (arith, d, k .delivered-most, b .low-is, l, ltb-false 1000 (Q (g .terms .low)) (f .low-quantity));
         taken-fits = omega (arith, d, k .taken-most, b .high-is, h, ltb-false 1000 (Q (g .terms .high)) (f .high-quantity));
       }
@@ -140,11 +153,8 @@ returns c =
     let t = c .before in
     rw (c .refuse .ensures, ← tested (t .before), t .if1 .taken) (refl, refl)
 
-is-accepted-requires : tie.Need-is-accepted-requires
-is-accepted-requires c κs =
-    let u = c .before .before in
-    let is = stands u .standing-of .ensures in
-    (low-fits _ _ is (can-use u), high-fits _ _ is (can-use u))
+is-trader-requires : tie.Need-is-trader-requires
+is-trader-requires c κs = search needs
 
 refuse-requires-2 : tie.Need-refuse-requires-2
 refuse-requires-2 c κs = search needs
@@ -153,13 +163,13 @@ returns-2 : tie.Need-returns-2
 unfolding closing
 returns-2 c =
     let t = c .before in
-    rw (c .refuse2 .ensures, can-use (usable (t .before)), ← accepted-is (t .before), t .if2 .taken) (refl, refl)
+    rw (c .refuse2 .ensures, can-use (t .before .before), ← t .before .is-trader .ensures, t .if2 .taken) (refl, refl)
 
-period-energy-requires : tie.Need-period-energy-requires
-period-energy-requires c κs = search needs
-
-enum-known-bounds : tie.Need-enum-known-bounds
-enum-known-bounds c = search needs
+is-accepted-requires : tie.Need-is-accepted-requires
+is-accepted-requires c κs =
+    let u = usable (c .before .before) in
+    let is = stands u .standing-of .ensures in
+    (low-fits _ _ is (can-use u), high-fits _ _ is (can-use u))
 
 refuse-requires-3 : tie.Need-refuse-requires-3
 refuse-requires-3 c κs = search needs
@@ -167,12 +177,29 @@ refuse-requires-3 c κs = search needs
 returns-3 : tie.Need-returns-3
 unfolding closing
 returns-3 c =
+    let t = c .before in
+    let n = named (t .before) in
+    rw (c .refuse3 .ensures, can-use (usable n), trader-good n, ← accepted-is (t .before), t .if3 .taken) (refl, refl)
+
+period-energy-requires : tie.Need-period-energy-requires
+period-energy-requires c κs = search needs
+
+enum-known-bounds : tie.Need-enum-known-bounds
+enum-known-bounds c = search needs
+
+refuse-requires-4 : tie.Need-refuse-requires-4
+refuse-requires-4 c κs = search needs
+
+returns-4 : tie.Need-returns-4
+unfolding closing
+returns-4 c =
     let d = c .before in
     let e = d .before in
     let i = e .before .before .before .before .before in
-    let u = usable (i .before) in
+    let n = named (i .before) in
+    let u = usable n in
     let f = opens u in
-    rw (c .refuse3 .ensures, can-use u, accepted i, no-bounds _ _ _ _ (f .low-quantity) (f .high-quantity) (f .curves-hold) (e .period-energy .result) (e .period-energy .ensures) (d .match .keys2)) (refl, refl)
+    rw (c .refuse4 .ensures, can-use u, trader-good n, accepted i, no-bounds _ _ _ _ (f .low-quantity) (f .high-quantity) (f .curves-hold) (e .period-energy .result) (e .period-energy .ensures) (d .match .keys2)) (refl, refl)
 
 settle-requires : tie.Need-settle-requires
 settle-requires c κs = search needs
@@ -183,18 +210,19 @@ enum-known-settled c = search needs
 enum-told : tie.Need-enum-told
 enum-told c = search needs
 
-refuse-requires-4 : tie.Need-refuse-requires-4
-refuse-requires-4 c κs = search needs
+refuse-requires-5 : tie.Need-refuse-requires-5
+refuse-requires-5 c κs = search needs
 
-returns-4 : tie.Need-returns-4
+returns-5 : tie.Need-returns-5
 unfolding closing
-returns-4 c =
+returns-5 c =
     let d = c .before in
     let m = d .before .before in
     let b = bounds-here m in
     rw (
-      c .refuse4 .ensures,
+      c .refuse5 .ensures,
       can-use (on m),
+      trader-good (by-trader m),
       accepted (bought m),
       b .good,
       ← b .low-is,
@@ -211,16 +239,16 @@ closed-record-requires c κs =
     rw (toZ-ofZ (f .purchase), toZ-ofZ (f .delivered), toZ-ofZ (f .taken))
     (record { period-open = before-eight _ (can-use (on m)); stands = stands (on m) .standing-of .ensures; totals-fit = totals-fit m (t .0) })
 
-returns-5 : tie.Need-returns-5
+returns-6 : tie.Need-returns-6
 unfolding closing
-returns-5 c =
+returns-6 c =
     let k = c .before in
     let m = k .before .before .before in
     let b = bounds-here m in
     let t = settled-to (test m) (above (new m)) (k .before .settled .given .0 .0) (m .settle .result) (settle-is m) (k .before .settled .given .1) in
     let f = start (on m) .fits in
     let made = rw (toZ-ofZ (f .purchase), toZ-ofZ (f .delivered), toZ-ofZ (f .taken), t .1) at (c .closed-record .ensures) in
-    rw (can-use (on m), accepted (bought m), b .good, ← b .low-is, ← b .high-is, t .0) (ap given made, made)
+    rw (can-use (on m), trader-good (by-trader m), accepted (bought m), b .good, ← b .low-is, ← b .high-is, t .0) (ap given made, made)
 
 pub close-period-spec : {M : Type 1} → statement M
 close-period-spec =
@@ -230,17 +258,20 @@ close-period-spec =
     is-unusable-requires
     refuse-requires
     returns
-    is-accepted-requires
+    is-trader-requires
     refuse-requires-2
     returns-2
-    period-energy-requires
-    enum-known-bounds
+    is-accepted-requires
     refuse-requires-3
     returns-3
+    period-energy-requires
+    enum-known-bounds
+    refuse-requires-4
+    returns-4
     settle-requires
     enum-known-settled
     enum-told
-    refuse-requires-4
-    returns-4
+    refuse-requires-5
+    returns-5
     closed-record-requires
-    returns-5)
+    returns-6)

@@ -11,8 +11,8 @@ use Rattle.ledger.proofs.closed_record.Tie as tie
 abbrev start : tie.After-closed-entries → tie.Start
 start c = c .before .before .before .before .before .before .before .before .before .before
 
-add-t19 : tie.Need-add-t19
-add-t19 c = search needs
+add-t20 : tie.Need-add-t20
+add-t20 c = search needs
 
 closed-entries-requires : tie.Need-closed-entries-requires
 unfolding standingOf
@@ -47,7 +47,7 @@ pub closed-record-spec : {M : Type 1} → statement M
 closed-record-spec =
     tie.close
     (tie.spec
-    add-t19
+    add-t20
     closed-entries-requires
     closed-entries-requires-2
     closed-totals-requires
