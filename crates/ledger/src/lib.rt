@@ -215,13 +215,7 @@ fn added_to(trader: u32, each: [u32; 4], more: u64) -> [u32; 4]
 }
 
 // The totals with one more period closed.
-fn closed_totals(
-    totals: Totals,
-    purchase: i64,
-    delivered: i64,
-    taken: i64,
-    trader: u32,
-) -> Totals
+fn closed_totals(totals: Totals, purchase: i64, delivered: i64, taken: i64, trader: u32) -> Totals
     requires { ⌜ TotalsFit totals purchase delivered taken trader ⌝ }
     ensures { λ r. ⌜ r ≡ closedTotals totals purchase delivered taken trader ⌝ }
 {

@@ -44,25 +44,22 @@ fn with_entry(entries: Entries, which: u32, i: usize, numbers: Numbers) -> Entri
     }
 }
 
-// n as the total of the trader at the place i.
-fn with_trader(each: [u32; 4], i: usize, n: u32) -> [u32; 4] {
-    let mut totals = each;
+// What the trader of the place i bought (7) or sold (else).
+fn with_total(totals: Totals, which: u32, i: usize, n: u32) -> Totals {
+    let mut bought = totals.bought;
+    let mut sold = totals.sold;
     if i < 4 {
-        totals[i] = n;
+        match which {
+            7 => bought[i] = n,
+            _ => sold[i] = n,
+        }
     }
-    totals
-}
-
-// What a trader bought (7) or sold (else).
-fn with_total(given: Totals, which: u32, i: usize, n: u32) -> Totals {
-    let mut totals = given;
-    let bought = given.bought;
-    let sold = given.sold;
-    match which {
-        7 => totals.bought = with_trader(bought, i, n),
-        _ => totals.sold = with_trader(sold, i, n),
+    Totals {
+        bought,
+        sold,
+        delivered: totals.delivered,
+        taken: totals.taken,
     }
-    totals
 }
 
 // put K V
