@@ -22,7 +22,7 @@ use Rattle.ledger_record.specs.Rule.{totalsRule, stateRule, recordRule}
 use Rattle.ledger_record.specs.declared.Record.{Record}
 use Rattle.ledger.specs.Calls.{Closing, closingWith, isTrader, ofTrader, unusable, accepts, proposal, checking, proposing, closedRecord, recordClosed, closingCauses, closing}
 use Rattle.ledger.specs.Promise.{Call, check, propose, close, after, run, History, done, carriedOut, bought, sold, total, totalOf, totalsByTrader, totalsAfter, recordAfter}
-use Rattle.ledger.specs.Traders.{trader1Has, oneBook, byTrader1, inOneBook, answerTo, answers, traderGood, DifferInTraders, TwoLists, totalsOf01, OneTrader}
+use Rattle.ledger.specs.Traders.{trader1Has, oneBook, byTrader1, closes, inOneBook, answerTo, answers, traderGood, DifferInTraders, TwoLists, totalsOf01, OneTrader}
 use Rattle.ledger.proofs.ByTrader.{OneToFour, trader-in, is-trader, sum-with}
 use Rattle.ledger.proofs.Promise.{left-is, demand-3}
 
@@ -96,7 +96,7 @@ module _ (r : Record) (four : Four r) where
   answer-same : (call : Call) → traderGood call ≡ true → answerTo (oneBook r) (byTrader1 call) ≡ answerTo r call
   answer-same (check p) good = rw (checking-same r p)
   answer-same propose good = rw (proposing-same r)
-  answer-same (close c) good = rw (closing-same r four c (trader-in (c .trader) good), in-book-once (closing r c))
+  answer-same (close c) good = ap closes (ap inOneBook (closing-same r four c (trader-in (c .trader) good)) ∙ in-book-once (closing r c))
 
   after-same : (call : Call) → traderGood call ≡ true → after (oneBook r) (byTrader1 call) ≡ oneBook (after r call)
   after-same (check p) good = refl
