@@ -20,15 +20,11 @@ use Rattle.energy.specs.declared.curve.Curves.{Curves}
 use Rattle.ledger_record.specs.Opening.{openingCauses, firstRecord, opening}
 use Rattle.ledger_record.specs.Rule.{totalsRule, stateRule, recordRule}
 use Rattle.ledger_record.specs.declared.Record.{Record}
-use Rattle.ledger.specs.Calls.{Closing, closingWith, isTrader, ofTrader, unusable, accepts, proposal, checking, proposing, closedRecord, recordClosed, closingCauses, closing}
+use Rattle.ledger.specs.Calls.{Closing, ofTrader, unusable, accepts, proposal, checking, proposing, closedRecord, recordClosed, closingCauses, closing}
 use Rattle.ledger.specs.Promise.{Call, check, propose, close, after, run, History, done, carriedOut, bought, sold, total, totalOf, totalsByTrader, totalsAfter, recordAfter}
-use Rattle.ledger.specs.Traders.{trader1Has, oneBook, byTrader1, closes, inOneBook, answerTo, answers, traderGood, DifferInTraders, TwoLists, totalsOf01, OneTrader}
+use Rattle.ledger.specs.Traders.{trader1Has, oneBook, withTrader1, byTrader1, closes, inOneBook, answerTo, answers, traderGood, DifferInTraders, TwoLists, totalsOf01, OneTrader}
 use Rattle.ledger.proofs.ByTrader.{OneToFour, trader-in, is-trader, sum-with}
 use Rattle.ledger.proofs.Promise.{left-is, demand-3}
-
--- the closing with trader 1 in place of its own
-abbrev inBook1 : Closing → Closing
-inBook1 c = closingWith (c .purchase) (c .readings) (c .delivered) (c .taken) 1
 
 one-sum : (n : ℕ) → sum (trader1Has n) ≡ n
 unfolding sum
@@ -79,7 +75,7 @@ record Four (r : Record) : Type 0 where
   sold : length (r .totals .sold) ≡ 4
 
 module _ (r : Record) (four : Four r) (c : Closing) (i : OneToFour (c .trader)) where
-  closed-same : recordClosed (oneBook r) (inBook1 c) ≡ oneBook (recordClosed r c)
+  closed-same : recordClosed (oneBook r) (withTrader1 c) ≡ oneBook (recordClosed r c)
   unfolding closedRecord
   closed-same =
       rw (
@@ -87,7 +83,7 @@ module _ (r : Record) (four : Four r) (c : Closing) (i : OneToFour (c .trader)) 
         sum-with (c .trader) (r .totals .sold) (below (c .purchase)) i (four .sold),
       )
 
-  closing-same : closing (oneBook r) (inBook1 c) ≡ inOneBook (closing r c)
+  closing-same : closing (oneBook r) (withTrader1 c) ≡ inOneBook (closing r c)
   unfolding closing accepts
   closing-same = rw (checked-in-book (closingCauses r c) (recordClosed r c), unusable-same r, is-trader (c .trader) i, closed-same)
 
@@ -146,9 +142,9 @@ carried-by-one (call ∷ calls) r =
     done-by-one : (call : Call) → every byOne (done r (byTrader1 call)) ≡ true
     done-by-one (check p) = refl
     done-by-one propose = refl
-    done-by-one (close c) = by (isGiven (closing r (inBook1 c)))
+    done-by-one (close c) = by (isGiven (closing r (withTrader1 c)))
       where
-        by : (g : Bool) → every byOne (cond g (inBook1 c ∷ []) []) ≡ true
+        by : (g : Bool) → every byOne (cond g (withTrader1 c ∷ []) []) ≡ true
         by true = refl
         by false = refl
 

@@ -4,7 +4,7 @@
 -- one after the other, each on the record that the last one returned or left. Then read off the list which closings were carried
 -- out: their readings give the bounds, the bounds give every start, and their purchases, deliveries and takings give the state.
 -- Each closing's readings are at two a second or at twenty, and one list may mix both (paper 02, No. 1); the bounds are those by watts
--- (No. 5). Each closing names its trader, who matters to the traders' totals and to nothing else (No. 7).
+-- (No. 5). Each closing names its trader, 1 to 4, and what it buys or sells is that trader's (No. 7).
 -- The unit passes both directions at every start: after the first k closings carried out, for every k from none to all, at
 -- start(k+1). Every call gives 10 exactly when eight closings were carried out. Before that the proposal is accepted, lies within
 -- the recovery volumes and is nearest to 0, and a purchase is refused exactly when it goes past empty or full itself or some
@@ -223,6 +223,7 @@ total f h = sum (map f h)
 abbrev pub totalOf : (Closing → ℕ) → History → ℕ → ℕ
 totalOf f h w = total (λ (c : Closing). cond (eqb (c .trader) w) (f c) 0) h
 
+-- for traders 1 to 4
 abbrev pub totalsByTrader : (Closing → ℕ) → History → List ℕ
 totalsByTrader f h = map (totalOf f h) (1 ∷ 2 ∷ 3 ∷ 4 ∷ [])
 

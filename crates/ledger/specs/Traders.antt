@@ -16,7 +16,7 @@ use Rattle.common.specs.Answer.{Answer, refused, given}
 use Rattle.common.specs.Lists.{sum, every}
 use Rattle.ledger_record.specs.declared.Totals.{Totals}
 use Rattle.ledger_record.specs.declared.Record.{Record}
-use Rattle.ledger.specs.Calls.{closingWith, isTrader, checking, proposing, closing}
+use Rattle.ledger.specs.Calls.{Closing, closingWith, isTrader, checking, proposing, closing}
 use Rattle.ledger.specs.Promise.{Call, check, propose, close, after, run, History, carriedOut, total, bought, sold, delivered, taken}
 
 -- ---- one book
@@ -45,11 +45,15 @@ oneBook r =
       };
     }
 
--- a call with trader 1 in place of its own
+-- a closing with trader 1 in place of its own
+abbrev pub withTrader1 : Closing → Closing
+withTrader1 c = closingWith (c .purchase) (c .readings) (c .delivered) (c .taken) 1
+
+-- checking and proposing name no trader
 abbrev pub byTrader1 : Call → Call
 byTrader1 (check p) = check p
 byTrader1 propose = propose
-byTrader1 (close c) = close (closingWith (c .purchase) (c .readings) (c .delivered) (c .taken) 1)
+byTrader1 (close c) = close (withTrader1 c)
 
 -- ---- the answers of a list, call by call
 
@@ -75,7 +79,7 @@ answers r (call ∷ calls) = answerTo r call ∷ answers (after r call) calls
 
 -- ---- two lists
 
--- checking and proposing name no trader
+-- the trader, where the call names one, is 1 to 4
 abbrev pub traderGood : Call → Bool
 traderGood (check p) = true
 traderGood propose = true

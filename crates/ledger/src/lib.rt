@@ -277,7 +277,7 @@ fn refuse(answer: CloseAnswer, given: Record) -> Closed
     }
 }
 
-// Refusal 19 holds where it is none.
+// Whether a trader is 1 to 4; refusal 19 where not.
 fn is_trader(trader: u32) -> bool
     ensures { λ r. ⌜ r ≡ isTrader trader ⌝ }
 {
@@ -317,8 +317,7 @@ pub fn close_period(
         return refuse(CloseAnswer::Readings, given);
     };
     let size = given.size;
-    let settled = settle(given.state, size, low, high, purchase, delivered, taken);
-    let Settled::To(new) = settled else {
+    let Settled::To(new) = settle(given.state, size, low, high, purchase, delivered, taken) else {
         return refuse(CloseAnswer::Energy, given);
     };
     Closed {

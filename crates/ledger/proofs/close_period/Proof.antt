@@ -204,8 +204,8 @@ returns-4 c =
 settle-requires : tie.Need-settle-requires
 settle-requires c κs = search needs
 
-enum-known-settled : tie.Need-enum-known-settled
-enum-known-settled c = search needs
+enum-known-new : tie.Need-enum-known-new
+enum-known-new c = search needs
 
 enum-told : tie.Need-enum-told
 enum-told c = search needs
@@ -234,7 +234,7 @@ returns-5 c =
 closed-record-requires : tie.Need-closed-record-requires
 closed-record-requires c κs =
     let m = c .before .before .before in
-    let t = settled-to (test m) (above (new m)) (c .before .settled .given .0 .0) (m .settle .result) (settle-is m) (c .before .settled .given .1) in
+    let t = settled-to (test m) (above (new m)) (c .before .new .given .0 .0) (m .settle .result) (settle-is m) (c .before .new .given .1) in
     let f = start (on m) .fits in
     rw (toZ-ofZ (f .purchase), toZ-ofZ (f .delivered), toZ-ofZ (f .taken))
     (record { period-open = before-eight _ (can-use (on m)); stands = stands (on m) .standing-of .ensures; totals-fit = totals-fit m (t .0) })
@@ -245,7 +245,7 @@ returns-6 c =
     let k = c .before in
     let m = k .before .before .before in
     let b = bounds-here m in
-    let t = settled-to (test m) (above (new m)) (k .before .settled .given .0 .0) (m .settle .result) (settle-is m) (k .before .settled .given .1) in
+    let t = settled-to (test m) (above (new m)) (k .before .new .given .0 .0) (m .settle .result) (settle-is m) (k .before .new .given .1) in
     let f = start (on m) .fits in
     let made = rw (toZ-ofZ (f .purchase), toZ-ofZ (f .delivered), toZ-ofZ (f .taken), t .1) at (c .closed-record .ensures) in
     rw (can-use (on m), trader-good (by-trader m), accepted (bought m), b .good, ← b .low-is, ← b .high-is, t .0) (ap given made, made)
@@ -269,7 +269,7 @@ close-period-spec =
     refuse-requires-4
     returns-4
     settle-requires
-    enum-known-settled
+    enum-known-new
     enum-told
     refuse-requires-5
     returns-5
