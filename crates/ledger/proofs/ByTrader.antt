@@ -42,6 +42,7 @@ module _ (f : Closing → ℕ) (h : History) (c : Closing) (i : OneToFour (c .tr
   with-closing (suc (suc (suc (suc zero)))) j = rw (as-it-was 1, as-it-was 2, as-it-was 3)
   with-closing (suc (suc (suc (suc (suc w))))) j = absurd (omega (arith, j))
 
+  -- one closing more in the list
   next-of : (w : ℕ) → totalOf f (extend h c) w ≡ totalOf f h w + cond (eqb (c .trader) w) (f c) 0
   next-of w = sum-next (λ (c : Closing). cond (eqb (c .trader) w) (f c) 0) h c
 

@@ -126,12 +126,12 @@ run-same (call ∷ calls) r four good =
     let g = both-true (traderGood call) (every traderGood calls) good in
     ap (λ (s : Record). run s (map byTrader1 calls)) (after-same r four call (g .0)) ∙ run-same calls (after r call) (four-after r four call) (g .1)
 
--- ---- closings of trader 1 alone
+-- ---- closings by trader 1 alone
 
 abbrev byOne : Closing → Bool
 byOne c = eqb (c .trader) 1
 
--- where each list is that of one book, so are the closings carried out
+-- of a list with trader 1 for every closing, the closings carried out are all by trader 1
 carried-by-one : (calls : List Call) (r : Record) → every byOne (carriedOut r (map byTrader1 calls)) ≡ true
 unfolding carriedOut every
 carried-by-one [] r = refl

@@ -4,7 +4,7 @@
 -- `TwoLists`, in words: make two lists of calls on the record of one opening, which differ only in trader numbers, all 1 to 4. Each
 -- call of the one is answered as the call in its place in the other, and afterwards the two records agree in everything but the
 -- traders' totals, whose sums agree. The second list may be the first with trader 1 for every closing. So a plan passes just as
--- with one book: whatever is accepted, proposed, carried out or refused is so whoever trades.
+-- with one book: what is accepted, proposed, carried out or refused is so whoever trades.
 -- `OneTrader`, in words: with trader 1 for every closing, trader 1's totals are the totals of paper 01, and the others' stay 0.
 -- Assumes nothing.
 use mathlib.Core.Path.{_≡_}
@@ -91,7 +91,8 @@ pub record DifferInTraders (calls others : List Call) : Type 0 where
   pub others-good : every traderGood others ≡ true
   pub else-same : map byTrader1 calls ≡ map byTrader1 others
 
--- on the record r₀ that opening returned
+-- on the record r₀ that opening returned: the same answers call by call, and records that agree in everything but the traders'
+-- totals, whose sums agree; so a plan passes just as with one book
 pub record TwoLists (r₀ : Record) (calls others : List Call) : Type 0 where
   pub same-answers : answers r₀ calls ≡ answers r₀ others
   pub same-record : oneBook (run r₀ calls) ≡ oneBook (run r₀ others)
@@ -108,5 +109,6 @@ totalsOf01 h =
       taken = total taken h;
     }
 
+-- with trader 1 for every closing the totals are these
 abbrev pub OneTrader : Record → List Call → Type 0
 OneTrader r₀ calls = run r₀ (map byTrader1 calls) .totals ≡ totalsOf01 (carriedOut r₀ (map byTrader1 calls))

@@ -47,7 +47,7 @@ openingCauses t curves size first =
 abbrev pub noEntries : Entries
 noEntries = record { bounds = replicate 8 0; starts = replicate 8 (pos 0); scheds = replicate 8 0 }
 
--- nobody has bought or sold
+-- nobody has bought or sold: eight zeros
 abbrev pub noTotals : Totals
 noTotals = record { bought = replicate 4 0; sold = replicate 4 0; delivered = 0; taken = 0 }
 

@@ -268,7 +268,7 @@ fn sum_of(bounds: [u32; 8]) -> u64
     total
 }
 
-// What the traders bought, or sold, together, which four numbers of any bits can bring past 32 bits.
+// What the traders bought, or sold, together; four numbers of any bits may pass 32 bits.
 fn sum_of_traders(each: [u32; 4]) -> u64
     ensures { λ r. ⌜ (r ≡ sum each) × (r < 2 ^ 34) ⌝ }
 {
