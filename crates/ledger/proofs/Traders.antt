@@ -3,7 +3,7 @@
 use mathlib.Core.Path.{_≡_, refl, sym, ap, _∙_}
 use mathlib.Core.Bool.{Bool, true, false, cond}
 use mathlib.Core.List.{List, [], _∷_, map}
-use Prim.Native.Nat.{ℕ, _+_, _-_}
+use Prim.Native.Nat.{ℕ, _+_}
 use native.Mathlib.Omega.{arith}
 use borrow.Author.Tests.{eqb-true}
 use lib.Dec.{eqb}
@@ -13,14 +13,14 @@ use Rattle.common.specs.Answer.{Answer, refused, given, isGiven, Cause, checked
 use Rattle.common.specs.Lists.{sum, every}
 use Rattle.common.proofs.Answers.{given-value}
 use Rattle.common.proofs.Lists.{every-append}
-use Rattle.common.proofs.Tests.{both-true}
+use Rattle.common.proofs.Tests.{both-true, by-test}
 use Rattle.signed.specs.Sign.{above, below}
 use Rattle.terms.specs.declared.Terms.{Terms}
 use Rattle.energy.specs.declared.curve.Curves.{Curves}
 use Rattle.ledger_record.specs.Opening.{openingCauses, firstRecord, opening}
 use Rattle.ledger_record.specs.Rule.{totalsRule, stateRule, recordRule}
 use Rattle.ledger_record.specs.declared.Record.{Record}
-use Rattle.ledger.specs.Calls.{Closing, ofTrader, unusable, accepts, proposal, checking, proposing, closedRecord, recordClosed, closingCauses, closing}
+use Rattle.ledger.specs.Calls.{Closing, unusable, accepts, proposal, checking, proposing, closedRecord, recordClosed, closingCauses, closing}
 use Rattle.ledger.specs.Promise.{Call, check, propose, close, after, run, History, done, carriedOut, bought, sold, total, totalOf, totalsByTrader, totalsAfter, recordAfter}
 use Rattle.ledger.specs.Traders.{trader1Has, oneBook, withTrader1, byTrader1, closes, inOneBook, answerTo, answers, traderGood, DifferInTraders, TwoLists, totalsOf01, OneTrader}
 use Rattle.ledger.proofs.ByTrader.{OneToFour, trader-in, is-trader, sum-with}
@@ -103,14 +103,10 @@ module _ (r : Record) (four : Four r) where
   unfolding closedRecord
   four-after (check p) = four
   four-after propose = four
-  four-after (close c) = rw (left-is c r) (by (isGiven (closing r c)))
+  four-after (close c) = rw (left-is c r) (by-test Four (isGiven (closing r c)) (recordClosed r c) r (λ e. added) (λ e. four))
     where
-      by : (g : Bool) → Four (cond g (recordClosed r c) r)
-      by false = four
-      by true = record {
-        bought = length-set (r .totals .bought) (c .trader - 1) (ofTrader (r .totals .bought) (c .trader) + above (c .purchase)) ∙ four .bought;
-        sold = length-set (r .totals .sold) (c .trader - 1) (ofTrader (r .totals .sold) (c .trader) + below (c .purchase)) ∙ four .sold;
-      }
+      added : Four (recordClosed r c)
+      added = record { bought = length-set (r .totals .bought) _ _ ∙ four .bought; sold = length-set (r .totals .sold) _ _ ∙ four .sold }
 
 answers-same : (calls : List Call) (r : Record) → Four r → every traderGood calls ≡ true → answers (oneBook r) (map byTrader1 calls) ≡ answers r calls
 unfolding answers every
@@ -142,11 +138,7 @@ carried-by-one (call ∷ calls) r =
     done-by-one : (call : Call) → every byOne (done r (byTrader1 call)) ≡ true
     done-by-one (check p) = refl
     done-by-one propose = refl
-    done-by-one (close c) = by (isGiven (closing r (withTrader1 c)))
-      where
-        by : (g : Bool) → every byOne (cond g (withTrader1 c ∷ []) []) ≡ true
-        by true = refl
-        by false = refl
+    done-by-one (close c) = by-test (λ (h : History). every byOne h ≡ true) (isGiven (closing r (withTrader1 c))) (withTrader1 c ∷ []) [] (λ e. refl) (λ e. refl)
 
 -- a choice of nothing, and of two numbers' sum
 none-chosen : (b : Bool) → _≡_ {A = ℕ} 0 (cond b 0 0)
