@@ -1,5 +1,5 @@
 -- `ledger::close_period` meets its contract, by its causes in their order. Assumes nothing.
-use mathlib.Core.Path.{_≡_, refl, sym, ap, _∙_}
+use mathlib.Core.Path.{_≡_, refl, sym, _∙_}
 use mathlib.Core.Bool.{Bool, true, false, cond, _&&_}
 use Prim.Native.Nat.{ℕ, _-_}
 use native.Mathlib.Omega.{arith}
@@ -248,7 +248,7 @@ returns-6 c =
     let t = settled-to (test m) (above (new m)) (k .before .new .given .0 .0) (m .settle .result) (settle-is m) (k .before .new .given .1) in
     let f = start (on m) .fits in
     let made = rw (toZ-ofZ (f .purchase), toZ-ofZ (f .delivered), toZ-ofZ (f .taken), t .1) at (c .closed-record .ensures) in
-    rw (can-use (on m), trader-good (by-trader m), accepted (bought m), b .good, ← b .low-is, ← b .high-is, t .0) (ap given made, made)
+    rw (can-use (on m), trader-good (by-trader m), accepted (bought m), b .good, ← b .low-is, ← b .high-is, t .0) (λ i. given (made i), made)
 
 pub close-period-spec : {M : Type 1} → statement M
 close-period-spec =
