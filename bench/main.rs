@@ -76,6 +76,15 @@ extern "C" {
         armed: u32,
         energy: u32,
     ) -> i64;
+    fn soe_payment(
+        price: u32,
+        adjustment: u32,
+        k: u32,
+        f: u32,
+        pieces: *const u8,
+        pieces_length: usize,
+        amount: *mut i64,
+    ) -> i64;
 }
 
 fn proved_period(q: [u32; 3], curves: [u32; 3], readings: &[u16]) -> u64 {
@@ -473,6 +482,48 @@ unsafe extern "C" fn plain_quantity(
     let i = (1..last).find(|&i| room <= points[i].0).unwrap_or(last);
     let ((r, c), (s, d)) = (points[i - 1], points[i]);
     (c + (d - c) * (room - r) / (s - r)).min(limit as u64) as i64
+}
+
+// ---- the payment in plain Rust
+
+extern "C" fn plain_payment(
+    price: u32,
+    adjustment: u32,
+    k: u32,
+    f: u32,
+    pieces: *const u8,
+    pieces_length: usize,
+    amount: *mut i64,
+) -> i64 {
+    const PENNY: u64 = 3_600_000_000_000;
+    let bytes = unsafe { std::slice::from_raw_parts(pieces, pieces_length) };
+    if bytes.len() % 8 != 0 {
+        return -13;
+    }
+    if price > 10_000 || adjustment > 10_000 || k > 1_000 || f > 1_000 || bytes.len() > 512 {
+        return -20;
+    }
+    let (mut seconds, mut work) = (0, 0);
+    for piece in bytes.chunks_exact(8) {
+        let number = |at: usize| u32::from_le_bytes(piece[at..at + 4].try_into().unwrap()) as u64;
+        let (quantity, duration) = (number(0), number(4));
+        if quantity > 1_000_000 {
+            return -20;
+        }
+        seconds += duration;
+        work += quantity * duration;
+    }
+    if seconds > 1_800 {
+        return -20;
+    }
+    let earned = price as i64 * 1_000_000 - price.max(adjustment) as i64 * (1_000_000 - k as i64 * f as i64);
+    let parts = earned.unsigned_abs() * work;
+    let pence = match earned {
+        0.. => ((parts + PENNY / 2) / PENNY) as i64,
+        _ => -(((parts + PENNY / 2 - 1) / PENNY) as i64),
+    };
+    unsafe { *amount = pence };
+    0
 }
 
 // ---- the requirement in plain Rust
@@ -1015,6 +1066,37 @@ fn odd_unit(random: &mut Random) -> Unit {
 }
 
 #[derive(Clone, Copy)]
+struct Paid {
+    figures: [u32; 4],
+    pieces: [u8; 520],
+    length: usize,
+}
+
+// That many pieces, of 1,800 seconds or fewer together.
+fn paid(random: &mut Random, count: usize) -> Paid {
+    let figures = [10_001, 10_001, 1_001, 1_001].map(|n| random.below(n));
+    let mut pieces = [0; 520];
+    for piece in pieces.chunks_mut(8) {
+        piece[..4].copy_from_slice(&random.below(1_000_001).to_le_bytes());
+        piece[4..].copy_from_slice(&random.below(1_800 / count as u32 + 1).to_le_bytes());
+    }
+    Paid { figures, pieces, length: 8 * count }
+}
+
+// Up to 65 pieces, of which one may be changed, and figures that may be above their limits.
+fn odd_paid(random: &mut Random) -> Paid {
+    let count = 1 + random.below(65) as usize;
+    let mut p = paid(random, count);
+    match random.below(4) {
+        0 => p.figures[random.below(4) as usize] += random.below(2_000),
+        1 => p.pieces[random.below(p.length as u32) as usize] = random.below(256) as u8,
+        2 => p.length = random.below(521) as usize,
+        _ => {}
+    }
+    p
+}
+
+#[derive(Clone, Copy)]
 struct Event {
     event: u32,
     time: u64,
@@ -1381,6 +1463,45 @@ fn quantities(random: &mut Random) {
     }
 }
 
+type Pay = unsafe extern "C" fn(u32, u32, u32, u32, *const u8, usize, *mut i64) -> i64;
+
+const PAYMENT_WAYS: [Pay; 2] = [soe_payment, plain_payment];
+
+// The number, and the amount that stands there afterwards.
+fn pay(way: Pay, p: &Paid) -> (i64, i64) {
+    let [price, adjustment, k, f] = p.figures;
+    let mut amount = 7;
+    (unsafe { way(price, adjustment, k, f, p.pieces.as_ptr(), p.length, &mut amount) }, amount)
+}
+
+fn payments(random: &mut Random) {
+    let mut kinds = Vec::new();
+    for count in [1, 4, 64] {
+        let all: Vec<_> = (0..10_000).map(|_| paid(random, count)).collect();
+        kinds.push((format!("10,000, pieces {count}"), all));
+    }
+    let odd: Vec<_> = (0..10_000).map(|_| odd_paid(random)).collect();
+    kinds.push(("10,000, pieces up to 65".to_string(), odd));
+    for (of, all) in &kinds {
+        let mut refused = 0;
+        for p in all {
+            let [proved, plain] = PAYMENT_WAYS.map(|way| pay(way, p));
+            assert_eq!(proved, plain);
+            refused += usize::from(plain.0 != 0);
+        }
+        let ways = PAYMENT_WAYS.map(|way| {
+            move |i: usize| {
+                black_box(pay(way, black_box(&all[i])));
+            }
+        });
+        let of = match refused {
+            0 => of.clone(),
+            _ => format!("{of}, {refused} refused"),
+        };
+        compare("payment", &of, all.len(), &ways);
+    }
+}
+
 type Instruct = unsafe extern "C" fn(*mut u8, usize, u32, u64, u64, u32, u32, u32, u32) -> i64;
 
 const INSTRUCTION_WAYS: [Instruct; 2] = [soe_instruction, plain_instruction];
@@ -1527,6 +1648,7 @@ fn main() {
     term_checks(&mut random);
     quantities(&mut random);
     instructions(&mut random);
+    payments(&mut random);
     println!("{:14} {:38} {:>9} {}", "work", "of", "table, us", title("steps, us"));
     for kinds in [&within[..], &any] {
         two_ways([proved_period_by_table, proved_period], same, &SERVED, kinds);

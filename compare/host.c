@@ -206,6 +206,76 @@ static void instructions(void) {
     refused("instruction, issue of an idle machine", -13, 32, SOE_TICK, 1000, 0, 0, 0, 0);
 }
 
+/* The pieces of a payment, and what stood at its amount before the call. */
+static uint32_t pieces[2 * 65];
+static const int64_t BEFORE = -7777777777;
+
+/* `count` pieces alike. */
+static void put_pieces(size_t count, uint32_t quantity, uint32_t duration) {
+    for (size_t i = 0; i < count; i++) {
+        pieces[2 * i] = quantity;
+        pieces[2 * i + 1] = duration;
+    }
+}
+
+/* The payment on `length` bytes of the pieces: 0 and `amount`, or a refusal and the amount as it was. */
+static void payment(const char *what, int64_t expected, int64_t amount, uint32_t price, uint32_t adjustment, uint32_t k, uint32_t f,
+                    size_t length) {
+    uint8_t bytes[sizeof pieces], lent[sizeof pieces];
+    for (size_t i = 0; i < sizeof bytes; i++)
+        bytes[i] = lent[i] = (uint8_t)(pieces[i / 4] >> 8 * (i % 4));
+    int64_t amounts[3] = {BEFORE, BEFORE, BEFORE};
+    int64_t got = soe_payment(price, adjustment, k, f, lent, length, amounts + 1);
+    int kept = amounts[0] == BEFORE && amounts[2] == BEFORE && memcmp(bytes, lent, sizeof bytes) == 0;
+    check(what, got, expected, kept && amounts[1] == (expected == 0 ? amount : BEFORE));
+}
+
+static void payments(void) {
+    put_pieces(1, 10000, 1800);
+    payment("payment, K and F 1,000", 0, 2500, 500, 0, 1000, 1000, 8);
+    payment("payment, the greater price the adjustment price, K 900", 0, 2000, 500, 1000, 900, 1000, 8);
+    payment("payment, the greater price the price, K 900", 0, 2250, 500, 499, 900, 1000, 8);
+    payment("payment, K and F 500", 0, -1250, 500, 1000, 500, 500, 8);
+    payment("payment, no pieces", 0, 0, 500, 1000, 900, 1000, 0);
+    payment("payment, price 10,000", 0, 50000, 10000, 10000, 1000, 1000, 8);
+    payment("payment, price 10,001", -20, 0, 10001, 10000, 1000, 1000, 8);
+    payment("payment, adjustment price 10,001", -20, 0, 10000, 10001, 1000, 1000, 8);
+    payment("payment, K 1,001", -20, 0, 500, 1000, 1001, 1000, 8);
+    payment("payment, F 1,001", -20, 0, 500, 1000, 1000, 1001, 8);
+    payment("payment, price -1 as C converts it", -20, 0, (uint32_t)-1, 1000, 1000, 1000, 8);
+    payment("payment, F of the least int32_t as C converts it", -20, 0, 500, 1000, 1000, (uint32_t)INT32_MIN, 8);
+    payment("payment, a byte too few", -13, 0, 500, 1000, 900, 1000, 7);
+    payment("payment, a byte too many before the price", -13, 0, 10001, 1000, 900, 1000, 9);
+
+    /* A kW for 1,800 seconds at 1,000 is half a penny; for 1,799 it is less by one part in 3,600. */
+    put_pieces(2, 1, 900);
+    payment("payment, half a penny in two pieces", 0, 1, 1000, 0, 1000, 1000, 16);
+    payment("payment, half a penny owed", 0, 0, 0, 1000, 0, 1000, 16);
+    payment("payment, one and a half owed", 0, -1, 0, 3000, 1000, 0, 16);
+    put_pieces(1, 1, 1799);
+    payment("payment, just under half a penny", 0, 0, 1000, 0, 1000, 1000, 8);
+    payment("payment, just under one and a half owed", 0, -1, 0, 3000, 0, 0, 8);
+    put_pieces(1, 3, 601);
+    payment("payment, just over half a penny", 0, 1, 1000, 0, 1000, 1000, 8);
+    payment("payment, just over half a penny owed", 0, -1, 0, 1000, 0, 1000, 8);
+
+    /* The limits of the pieces. */
+    put_pieces(65, 1000000, 28);
+    payment("payment, 64 pieces of 1,000 MW for 1,792 seconds", 0, 4977778, 10000, 10000, 1000, 1000, 512);
+    payment("payment, 65 pieces", -20, 0, 10000, 10000, 1000, 1000, 520);
+    pieces[1] = 36;
+    payment("payment, 64 pieces of 1,800 seconds together", 0, 5000000, 10000, 10000, 1000, 1000, 512);
+    payment("payment, the same owed", 0, -5000000, 0, 10000, 0, 0, 512);
+    payment("payment, nothing of it earned", 0, 0, 10000, 0, 0, 1000, 512);
+    pieces[127] = 29;
+    payment("payment, 1,801 seconds together", -20, 0, 10000, 10000, 1000, 1000, 512);
+    pieces[127] = 28;
+    pieces[126] = 1000001;
+    payment("payment, a quantity of 1,000,001", -20, 0, 10000, 10000, 1000, 1000, 512);
+    put_pieces(64, 0, 67108864);
+    payment("payment, durations of 2^32 together", -20, 0, 10000, 10000, 1000, 1000, 512);
+}
+
 int main(void) {
     report("report, the paper's example", LINE1, "        1", 189, 488, 0);
     report("report, bytes past 488 are kept", LINE1, "        1", 189, ROOM, 0);
@@ -274,5 +344,6 @@ int main(void) {
     contracted("quantity, a byte too few before an energy", -12, 1, 1, 10000001, 1, 0, 0, 70000, FOUR, 31, 4000000);
 
     instructions();
+    payments();
     return differences;
 }

@@ -2,6 +2,8 @@
 
 use crate::instructions::{self, Call};
 use crate::model::{self, Int, Terms, Unit};
+use crate::payment::Payment;
+use crate::payment_cases::kind_of;
 use crate::tally::{stop, Tally};
 
 extern "C" {
@@ -43,6 +45,16 @@ extern "C" {
         available: u32,
         armed: u32,
         energy: u32,
+    ) -> i64;
+
+    fn soe_payment(
+        price: u32,
+        adjustment: u32,
+        k: u32,
+        f: u32,
+        pieces: *const u8,
+        pieces_length: usize,
+        amount: *mut i64,
     ) -> i64;
 }
 
@@ -248,4 +260,59 @@ pub fn instruction(
     let event = EVENTS.get(call.event as usize).unwrap_or(&EVENTS[0]);
     tally.count(topic, event, -number);
     (number, bytes[lent].to_vec())
+}
+
+/// What stands at the amount and beside it before a payment's call.
+const AMOUNTS: [i64; 3] = [i64::MIN, -7_777_777_777, i64::MAX];
+
+/// Compares the number, the amount with the numbers beside it, and that the pieces' bytes are as they were. Gives the amount, where
+/// there is one. The figures fit u32.
+pub fn payment_of(
+    topic: &'static str,
+    payment: &Payment,
+    bytes: &[u8],
+    tally: &mut Tally,
+) -> Option<Int> {
+    let mut expected = AMOUNTS;
+    let number = match payment.soe_payment(bytes) {
+        Ok(amount) => {
+            expected[1] = amount as i64;
+            0
+        }
+        Err(number) => -number,
+    };
+    let lent = bytes.to_vec();
+    let mut amounts = AMOUNTS;
+    // SAFETY: the pointers are not null, also for no bytes; one leads to as many bytes as its length says, the other to an i64.
+    let found = unsafe {
+        soe_payment(
+            payment.price as u32,
+            payment.adjustment as u32,
+            payment.k as u32,
+            payment.f as u32,
+            lent.as_ptr(),
+            lent.len(),
+            amounts[1..].as_mut_ptr(),
+        )
+    };
+    if found != number || amounts != expected || lent != bytes {
+        let shown = format!("soe_payment, {payment:?}, bytes {bytes:02x?}\n");
+        stop(
+            topic,
+            shown.as_bytes(),
+            &format!("{number}, {expected:?}"),
+            &format!("{found}, {amounts:?}"),
+        );
+    }
+    tally.count(topic, "soe_payment", -number);
+    (number == 0).then(|| Int::from(amounts[1]))
+}
+
+/// The payment for its own pieces.
+pub fn payment(topic: &'static str, payment: &Payment, tally: &mut Tally) -> Option<Int> {
+    let amount = payment_of(topic, payment, &payment.bytes(), tally);
+    if amount.is_some() {
+        tally.pay(kind_of(payment.exactly()));
+    }
+    amount
 }

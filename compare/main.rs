@@ -14,6 +14,8 @@ mod instructions;
 mod kilowatts;
 mod model;
 mod papers;
+mod payment;
+mod payment_cases;
 mod random;
 mod tally;
 mod trace;
@@ -60,6 +62,7 @@ fn compare(seed: u64, rounds: u64, ledger_trace: &str, containment_table: &str) 
     gain::compare(runs, tally);
     host_cases::damaged_reports(tally);
     host_cases::quantity_edges(tally);
+    payment_cases::edges(random, tally);
     instruction_cases::edges(tally);
     instruction_cases::damaged(tally);
     instruction_cases::lists(random, 2_000, tally);
@@ -74,6 +77,7 @@ fn compare(seed: u64, rounds: u64, ledger_trace: &str, containment_table: &str) 
         host_cases::quantity(random, 1_000, tally);
         host_cases::reports(random, 1_000, tally);
         host_cases::damaged_random_report(random, tally);
+        payment_cases::any(random, 500, tally);
         instruction_cases::lists(random, 50, tally);
         instruction_cases::made_up(random, 500, tally);
         instruction_cases::any_damaged(random, 500, tally);
@@ -105,6 +109,9 @@ fn compare(seed: u64, rounds: u64, ledger_trace: &str, containment_table: &str) 
     println!("bounds by readings of the period and direction, and how many are how many kWh below those by kilowatts");
     tally.print_falls();
     kilowatts::all_reached(tally);
+    println!("payments by the side of 0 on which the exact sum lies, and how many lie where above the whole number below");
+    tally.print_amounts();
+    payment_cases::all_reached(tally);
     println!(
         "compare: {} cases, no difference (seed {seed})",
         tally.total()

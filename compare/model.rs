@@ -29,8 +29,35 @@ impl Fraction {
         )
     }
 
+    pub fn minus(self, other: Fraction) -> Fraction {
+        self.plus(other.times(-1))
+    }
+
     pub fn times(self, n: Int) -> Fraction {
         Fraction::new(self.over * n, self.under)
+    }
+
+    /// That part of another.
+    pub fn of(self, other: Fraction) -> Fraction {
+        Fraction::new(self.over * other.over, self.under * other.under)
+    }
+
+    /// The same number in lowest terms.
+    pub fn reduced(self) -> Fraction {
+        let (mut a, mut b) = (self.over.abs(), self.under);
+        while b != 0 {
+            (a, b) = (b, a % b);
+        }
+        Fraction::new(self.over / a, self.under / a)
+    }
+
+    /// What is left above the whole number below it.
+    pub fn past_whole(self) -> Fraction {
+        Fraction::new(self.over.rem_euclid(self.under), self.under)
+    }
+
+    pub fn sign(self) -> Int {
+        self.over.signum()
     }
 
     /// Divided by a fraction above 0.

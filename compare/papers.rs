@@ -1,8 +1,9 @@
-//! The examples of paper 01, the counts and divisors of both papers, what 02 prints of its table and of the response in watts,
-//! and the tables of documents 000 and 003 as they are printed, held to the model and compared.
+//! The examples of paper 01, the counts and divisors of both papers, what 02 prints of its table, of the response in watts and of
+//! the payment, and the tables of documents 000 and 003 as they are printed, held to the model and compared.
 
 use crate::host;
 use crate::model::{self, containment, regulation, Direction, Int, Levels, Terms, Unit, RATES};
+use crate::payment::Payment;
 use crate::tally::{printed, Tally};
 use crate::trace::{Runs, Script};
 
@@ -62,6 +63,7 @@ pub fn compare(runs: &mut Runs, tally: &mut Tally) {
     report(tally);
     terms(tally);
     quantity(tally);
+    payment(tally);
     table(&TABLE_6, Direction([0, 0, 100]), 1, tally);
     table(&TABLE_8, Direction([40, 0, 0]), 2, tally);
     containment_table();
@@ -182,6 +184,27 @@ fn quantity(tally: &mut Tally) {
 }
 
 /// MIL, SIL, SEL, MEL and OL.
+/// 02, No. 8: "With price 500, K and F 1,000, and 10,000 kW for 1,800 seconds it is 2,500 pence; with adjustment price 1,000 and
+/// K 900, 2,000." The first has any adjustment price. "An empty list pays 0."
+fn payment(tally: &mut Tally) {
+    let mut pays = |adjustment: Int, k: Int, pieces: &[(Int, Int)]| {
+        let payment = Payment {
+            price: 500,
+            adjustment,
+            k,
+            f: 1_000,
+            pieces: pieces.to_vec(),
+        };
+        host::payment(TOPIC, &payment, tally)
+    };
+    let piece = [(10_000, 1_800)];
+    for adjustment in 0..=10_000 {
+        printed("payment", Some(2_500), pays(adjustment, 1_000, &piece));
+    }
+    printed("payment, K 900", Some(2_000), pays(1_000, 900, &piece));
+    printed("payment, no pieces", Some(0), pays(1_000, 900, &[]));
+}
+
 fn levels_of([mil, sil, sel, mel, ol]: [Int; 5]) -> Levels {
     Levels {
         mil,

@@ -10,6 +10,7 @@ pub struct Tally {
     counts: BTreeMap<(&'static str, &'static str), BTreeMap<i64, u64>>,
     kinds: BTreeMap<[&'static str; 4], u64>,
     falls: BTreeMap<(usize, &'static str), BTreeMap<Int, u64>>,
+    amounts: BTreeMap<&'static str, BTreeMap<&'static str, u64>>,
 }
 
 impl Tally {
@@ -42,6 +43,18 @@ impl Tally {
         falls.and_then(|f| f.get(&by)).copied().unwrap_or(0)
     }
 
+    /// A payment's exact sum was of this kind: its side of 0, and where it lies above the whole number below it.
+    pub fn pay(&mut self, [side, place]: [&'static str; 2]) {
+        let amounts = self.amounts.entry(side).or_default();
+        *amounts.entry(place).or_default() += 1;
+    }
+
+    /// How many exact sums were of that kind.
+    pub fn paid(&self, [side, place]: [&'static str; 2]) -> u64 {
+        let amounts = self.amounts.get(side);
+        amounts.and_then(|a| a.get(place)).copied().unwrap_or(0)
+    }
+
     pub fn total(&self) -> u64 {
         self.counts.values().flat_map(|n| n.values()).sum()
     }
@@ -58,6 +71,13 @@ impl Tally {
     pub fn print_falls(&self) {
         for ((count, direction), falls) in &self.falls {
             println!("{count:16} {direction:12} {}", each(falls));
+        }
+    }
+
+    /// A line for each side of 0: how many exact sums lay where.
+    pub fn print_amounts(&self) {
+        for (side, amounts) in &self.amounts {
+            println!("{side:16} {}", each(amounts));
         }
     }
 

@@ -6,14 +6,14 @@
  *
  * Pointers: each is the caller's before and after the call, nothing is kept, allocated or freed, and only what is named as
  * output is written. The caller sees to it that a pointer is not null, also where its length is 0, that it leads to as many
- * bytes as its length says, and that an output overlaps no other argument. Every other argument may have any value.
+ * bytes as its length says, or to an int64_t, and that an output overlaps no other argument. Every other argument may have any value.
  *
- * Unsigned numbers: quantities, direction, energies, submitted limit, event, available and armed are uint32_t, and times
- * uint64_t, so that none below 0 can be handed in. A host that holds one in a signed or wider type compares it with 0 and the
+ * Unsigned numbers: quantities, direction, energies, submitted limit, event, available, armed, prices, K and F are uint32_t, and
+ * times uint64_t, so that none below 0 can be handed in. A host that holds one in a signed or wider type compares it with 0 and the
  * greatest number of the parameter's type before the call and refuses it itself, since C converts it without a warning. An int32_t
  * below 0 becomes a number above 2,147,483,647: soe_terms refuses that as a quantity with -1; soe_quantity as a direction, available
- * or limit with -12 and as an energy with -18; and soe_instruction as an event or a start's available or armed with -13 and as a
- * start's energy with -17; its limit may be any number. An int64_t below 0 becomes a time far ahead, and every event after it would
+ * or limit with -12 and as an energy with -18; soe_instruction as an event or a start's available or armed with -13 and as a start's
+ * energy with -17, while its limit may be any number; and soe_payment as a price, K or F with -20. An int64_t below 0 becomes a time far ahead, and every event after it would
  * be refused with -15. */
 #ifndef SOE_H
 #define SOE_H
@@ -115,6 +115,23 @@ int64_t soe_quantity(uint32_t direction, uint32_t available, uint32_t offer, uin
  *        unanswered */
 int64_t soe_instruction(uint8_t *machine, size_t machine_length, uint32_t event, uint64_t time, uint64_t at,
                         uint32_t limit, uint32_t available, uint32_t armed, uint32_t energy);
+
+/* The real-time payment of a settlement period, in pence. The price and the Minimum Adjustment Price are in pence per MW and hour, K
+ * and F in thousandths. `pieces` holds up to 64 pieces, each its quantity in kW and its duration in seconds as two little-endian
+ * unsigned 32-bit numbers, 8 bytes.
+ *
+ * A piece earns price times quantity and time. From that goes the greater of the two prices times the same, times the part by which K
+ * times F falls short of 1. The amount is the exact sum over the pieces, rounded once to whole pence, a half upward: 1.5 to 2, and
+ * -1.5 to -1. No pieces pay 0.
+ *
+ * 0: the amount, which may be below 0, is in *amount.
+ *
+ * Refusals, *amount being as it was:
+ *   -13  the pieces' length is not a multiple of 8
+ *   -20  the price or the adjustment price is above 10,000; K or F is above 1,000; there are more than 64 pieces; a quantity is above
+ *        1,000,000; or the durations are above 1,800 seconds together */
+int64_t soe_payment(uint32_t price, uint32_t adjustment, uint32_t k, uint32_t f,
+                    const uint8_t *pieces, size_t pieces_length, int64_t *amount);
 
 #ifdef __cplusplus
 }

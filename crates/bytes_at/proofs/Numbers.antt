@@ -24,6 +24,10 @@ first-byte width at bytes = by (decLt at (length bytes))
         let on : length bytes ≤ at + 1 = omega arith in
         rw (drop-of-length-le bytes past, drop-of-length-le bytes on, take-nil {A = ℕ} width, List·getD-eq-default bytes 0 past)
 
+pub past-end : (width at : ℕ) (bytes : List ℕ) → length bytes ≤ at → numberAt width at bytes ≡ 0
+unfolding number
+past-end width at bytes h = rw (drop-of-length-le bytes h, take-nil {A = ℕ} width)
+
 no-bytes : (at : ℕ) (bytes : List ℕ) → numberAt 0 at bytes ≡ 0
 unfolding number
 no-bytes at bytes = refl

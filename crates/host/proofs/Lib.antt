@@ -2,3 +2,4 @@ pub mod EveryCall
 pub mod Instructing
 pub mod MachineBytes
 pub mod Numbers
+pub mod Paying

@@ -3,4 +3,5 @@ pub mod Convention
 pub mod EveryCall
 pub mod Instruction
 pub mod MachineBytes
+pub mod Pieces
 pub mod Points

@@ -1,11 +1,12 @@
--- The starred examples of paper 01, "Checked examples", as one list: what the papers print, and what the definitions give.
+-- The starred examples of paper 01, "Checked examples", and those of paper 02, No. 8, as one list: what the papers print, and what
+-- the definitions give.
 -- `starred-hold` computes the whole list. Assumes nothing.
 use mathlib.Core.Path.{_≡_, refl}
 use mathlib.Core.Bool.{Bool, cond}
 use mathlib.Core.List.{List, [], _∷_, _++_, map}
 use Prim.Native.Nat.{ℕ, _*_}
 use lib.IntN.{ℤ, pos, negℤ}
-use lib.ListN.{drop}
+use lib.ListN.{drop, replicate}
 use Rattle.common.specs.Answer.{numberOf, orBlank}
 use Rattle.common.specs.Lists.{sum, every, someEntry, chain}
 use Rattle.common.specs.Periods.{periodsTo}
@@ -20,6 +21,9 @@ use Rattle.energy.specs.Period.{lowDeviation}
 use Rattle.capability.specs.declared.Point.{Point}
 use Rattle.capability.specs.declared.Points.{Points}
 use Rattle.capability.specs.Capability.{pointsRule, capabilityFrom, capabilityOf, capabilityAnswer}
+use Rattle.payment.specs.declared.Pieces.{Pieces}
+use Rattle.payment.specs.Exact.{total, rounded}
+use Rattle.payment.specs.Payment.{piecesRule, amount, paymentCauses, paying}
 use Rattle.ledger_record.specs.declared.Record.{Record}
 use Rattle.ledger_record.specs.Opening.{openingCauses, blankRecord, opening}
 use Rattle.ledger_record.specs.Rule.{startAt, schedAt, backAt, entriesRule, totalsRule, nextStart, stateRule, recordRule}
@@ -73,6 +77,12 @@ highPoints = record { count = 3; points = point 0 0 ∷ point 30 20 ∷ point 10
 
 capabilities : Points → List ℕ → List ℤ
 capabilities ps rooms = map (λ (room : ℕ). pos (orBlank 0 (capabilityAnswer ps room))) rooms
+
+-- ---- a payment
+
+-- 10,000 kW for 1,800 seconds
+onePiece : Pieces
+onePiece = record { count = 1; pieces = replicate 64 (record { quantity = 10000; duration = 1800 }) }
 
 -- ---- a ledger
 
@@ -142,8 +152,14 @@ starred =
       printed = nat (0 ∷ 8 ∷ 8 ∷ []) ∷ [];
       given = nat (map (λ (p : ℤ). numberOf (checking fullBattery p)) (pos 0 ∷ pos 1 ∷ negℤ (pos 1) ∷ [])) ∷ [];
     }
+    -- 02, No. 8. With price 500, K and F 1,000, and 10,000 kW for 1,800 seconds it is 2,500 pence; with adjustment price 1,000 and
+    -- K 900, 2,000. In the first any adjustment price will do.
+    ∷ record {
+      printed = nat (2500 ∷ 2000 ∷ []) ∷ [];
+      given = map (orBlank (pos 0)) (paying 500 0 1000 1000 onePiece ∷ paying 500 1000 900 1000 onePiece ∷ []) ∷ [];
+    }
     ∷ []
 
 starred-hold : map (λ (x : Example). x .given) starred ≡ map (λ (x : Example). x .printed) starred
-unfolding starred volumes containment regulation line bit nat highTable point lowPoints highPoints capabilities fullBattery left sched back start end rowOf periodsTo tableOf rowsOf monitoring someEntry every sum shareFrom response chain curveRule curvesRule limitsBroken openingCauses opening startAt schedAt backAt entriesRule totalsRule nextStart stateRule recordRule unusable need accepts checking pointsRule capabilityFrom capabilityOf capabilityAnswer
+unfolding starred volumes containment regulation line bit nat highTable point lowPoints highPoints capabilities fullBattery left sched back start end rowOf periodsTo tableOf rowsOf monitoring someEntry every sum shareFrom response chain curveRule curvesRule limitsBroken openingCauses opening startAt schedAt backAt entriesRule totalsRule nextStart stateRule recordRule unusable need accepts checking pointsRule capabilityFrom capabilityOf capabilityAnswer onePiece piecesRule total rounded amount paymentCauses paying
 starred-hold = refl

@@ -1,0 +1,6 @@
+pub mod Amounts
+pub mod Answers
+pub mod Fractions
+pub mod Laws
+pub mod Measuring
+pub mod Rounding
