@@ -1,15 +1,28 @@
 -- The pieces of a payment as the loop of `pieces_in` reads them, and the payment's answers from C. Assumes nothing.
 use mathlib.Core.Path.{_≡_, refl, sym, ap, _∙_}
+use mathlib.Core.Logic.{_≢_, inl, inr}
 use mathlib.Core.List.{List, [], _∷_, _++_, append-assoc, append-nil}
 use Prim.Native.Nat.{ℕ, zero, suc, _+_, _*_, _-_, _/_, _%_, _≤_, _<_, min}
+use native.Mathlib.Nat.{zero-add}
 use native.Mathlib.Numerals.{add-one}
 use native.Mathlib.Omega.{arith}
 use native.Mathlib.Decide.{decLe}
+use borrow.Author.Tests.{eq-eqb, ne-eqb}
+use types.Run.{OneOf}
+use denote.Enum.Declared.{tagOf}
+use lib.IntN.{ℤ}
 use lib.ListN.{length, set, replicate, length-append, replicate-append-replicate}
 use lib.Seq.{set-at}
 use Rattle.bytes_at.proofs.Numbers.{past-end}
+use Rattle.common.specs.Answer.{refused, orBlank}
 use Rattle.payment.specs.declared.Piece.{Piece}
-use Rattle.host.specs.Pieces.{pieceAt, firstPieces, piecesIn}
+use Rattle.payment.specs.declared.PaymentAnswer.{PaymentAnswer}
+use Rattle.payment.specs.declared.PaymentAnswer.the-variants as answers
+use Rattle.payment.specs.Payment.{paying, answerOf}
+use Rattle.payment.proofs.PaymentAnswer.{the-type}
+use Rattle.host.specs.Pieces.{pieceAt, firstPieces, piecesIn, payingIn}
+
+-- ---- the pieces
 
 module _ (bytes : List ℕ) where
   abbrev blank : Piece
@@ -54,9 +67,10 @@ module _ (bytes : List ℕ) where
     -- past the last piece all are blank
     then-blank : (i : ℕ) → length bytes / 8 ≤ i → (m : ℕ) → firstPieces (m + i) bytes ≡ firstPieces i bytes ++ replicate m blank
     unfolding firstPieces
-    then-blank i h zero = sym (append-nil (firstPieces i bytes))
+    then-blank i h zero = rw (zero-add i) (sym (append-nil (firstPieces i bytes)))
     then-blank i h (suc m) =
-        rw (then-blank i h m, past-last (m + i) (omega arith), append-assoc, replicate-append-replicate m 1 blank, add-one m)
+        let on : suc m + i ≡ suc (m + i) = omega arith in
+        rw (on, then-blank i h m, past-last (m + i) (omega arith), append-assoc, replicate-append-replicate m 1 blank, add-one m)
 
     pub done : {pieces : List Piece} {i : ℕ} → Filled pieces i → min (length bytes / 8) 64 ≤ i → pieces ≡ firstPieces 64 bytes
     done {pieces} {i} f h = f .filled ∙ by (decLe (length bytes / 8) i)
@@ -68,3 +82,27 @@ module _ (bytes : List ℕ) where
         by (no more) =
             let all : i ≡ 64 = omega arith in
             rw all (append-nil (firstPieces 64 bytes))
+
+-- ---- the answers
+
+module _ (price adjustment k f : ℕ) (bytes : List ℕ) where
+  pub not-whole : length bytes % 8 ≢ 0 → payingIn price adjustment k f bytes ≡ refused 13
+  unfolding payingIn
+  not-whole h = rw (ne-eqb (length bytes % 8) 0 h)
+
+  pub of-pieces : length bytes % 8 ≡ 0 → payingIn price adjustment k f bytes ≡ paying price adjustment k f (piecesIn bytes)
+  unfolding payingIn
+  of-pieces h = rw (eq-eqb (length bytes % 8) 0 h)
+
+-- an answer without an amount leaves what was there
+pub no-amount : (before : ℤ) (a : PaymentAnswer) → OneOf (1 ∷ 2 ∷ 3 ∷ 4 ∷ 5 ∷ []) (tagOf the-type a) → orBlank before (answerOf a) ≡ before
+no-amount before (answers.Amount pence) (inl a) = absurd (omega arith)
+no-amount before (answers.Amount pence) (inr (inl a)) = absurd (omega arith)
+no-amount before (answers.Amount pence) (inr (inr (inl a))) = absurd (omega arith)
+no-amount before (answers.Amount pence) (inr (inr (inr (inl a)))) = absurd (omega arith)
+no-amount before (answers.Amount pence) (inr (inr (inr (inr a)))) = absurd (omega arith)
+no-amount before answers.Price t = refl
+no-amount before answers.AdjustmentPrice t = refl
+no-amount before answers.K t = refl
+no-amount before answers.F t = refl
+no-amount before answers.Pieces t = refl
