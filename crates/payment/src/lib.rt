@@ -57,12 +57,11 @@ fn measure(ps: Pieces) -> Measured
     if 64 < count {
         return Measured::Over;
     }
-    let pieces = ps.pieces;
     let mut seconds: u64 = 0;
     let mut work: u64 = 0;
     let mut i: usize = 0;
     while i < count {
-        let p = pieces[i];
+        let p = ps.pieces[i];
         if 1_000_000 < p.quantity {
             return Measured::Over;
         }

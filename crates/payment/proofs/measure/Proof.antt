@@ -10,13 +10,13 @@ use Rattle.payment.proofs.measure.Statement.{statement}
 use Rattle.payment.proofs.measure.Tie as tie
 
 abbrev Inv-loop : tie.InvT-loop
-Inv-loop count pieces seconds₀ work₀ i₀ seconds work i = Read count pieces seconds work i
+Inv-loop ps count seconds₀ work₀ i₀ seconds work i = Read count (ps .pieces) seconds work i
 
 abbrev μ-loop : tie.MeasureT-loop
-μ-loop count pieces seconds₀ work₀ i₀ seconds work i = count - i
+μ-loop ps count seconds₀ work₀ i₀ seconds work i = count - i
 
-long : (s : tie.Start Inv-loop μ-loop) → length (s .args .ps .pieces) ≡ 64
-long s = sym (length-map (s .args .ps .pieces) _) ∙ s .good .0 .1 .1 .1 .0 .1 .0 .1
+long : (s : tie.Start Inv-loop μ-loop) → length (s .args .t1 .pieces) ≡ 64
+long s = sym (length-map (s .args .t1 .pieces) _) ∙ s .good .0 .1 .1 .1 .0 .1 .0 .1
 
 -- in a turn whose piece keeps its limit
 module _ (k : tie.After-struct-known2 Inv-loop μ-loop) where
@@ -24,10 +24,10 @@ module _ (k : tie.After-struct-known2 Inv-loop μ-loop) where
   turn = k .before .before .before .before
 
   abbrev start : tie.Start Inv-loop μ-loop
-  start = turn .before .before .before .before
+  start = turn .before .before .before
 
   abbrev piece : Piece
-  piece = at (start .args .ps .pieces) (turn .before .loop .i)
+  piece = at (start .args .t1 .pieces) (turn .before .loop .i)
 
   little : piece .quantity ≤ 1000000
   little = k .before .if2 .left
@@ -39,13 +39,13 @@ returns : tie.Need-returns Inv-loop μ-loop
 returns c = over _ (miscounted _ (c .if1 .taken))
 
 loop-holds : tie.Need-loop-holds Inv-loop μ-loop
-loop-holds c = begin _ _ (c .before .if1 .left) (long (c .before .before))
+loop-holds c = begin _ _ (c .if1 .left) (long (c .before))
 
 mul-p : tie.Need-mul-p Inv-loop μ-loop
 mul-p c = search needs
 
-array-copy-out-p : tie.Need-array-copy-out-p Inv-loop μ-loop
-array-copy-out-p c = omega arith
+element-copy-out-p : tie.Need-element-copy-out-p Inv-loop μ-loop
+element-copy-out-p c = omega arith
 
 returns-2 : tie.Need-returns-2 Inv-loop μ-loop
 returns-2 c =
@@ -107,7 +107,7 @@ measure-spec =
     returns
     loop-holds
     mul-p
-    array-copy-out-p
+    element-copy-out-p
     returns-2
     cast-seconds
     add-seconds
