@@ -18,25 +18,33 @@ const MOST_WORK: Int = 1_000_000 * 1_800;
 
 const SIDES: [&str; 2] = ["below 0", "above 0"];
 
-const PLACES: [&str; 6] = [
+const PLACES: [&str; 8] = [
     "whole",
     "under a half",
     "just under a half",
+    "a part under a half",
     "a half",
+    "a part over a half",
     "just over a half",
     "over a half",
 ];
 
-/// On which side of 0 an exact sum lies, and where above the whole number below it. Within a millionth of a half is just beside it.
+/// On which side of 0 an exact sum lies, and where above the whole number below it. Within a millionth of a half is just beside it,
+/// and nearer than a part of a penny no sum is.
 pub fn kind_of(exact: Fraction) -> [&'static str; 2] {
     let past = exact.past_whole();
     let beside = past.minus(Fraction::new(1, 2));
-    let just = |side: Int| beside.times(side).minus(Fraction::new(1, 1_000_000)).sign() <= 0;
+    let within = |n: Int| {
+        let most = Fraction::new(1, n);
+        let far = [beside.minus(most), beside.plus(most)].map(Fraction::sign);
+        usize::from(far[0] <= 0 && far[1] >= 0)
+    };
+    let near = within(1_000_000) + within(PENNY);
     let place = match (past.sign(), beside.sign()) {
         (0, _) => 0,
-        (_, 0) => 3,
-        (_, 1) => 5 - usize::from(just(1)),
-        _ => 1 + usize::from(just(-1)),
+        (_, 0) => 4,
+        (_, 1) => 7 - near,
+        _ => 1 + near,
     };
     let side = match exact.sign() {
         -1 => SIDES[0],
@@ -159,15 +167,21 @@ fn common_divisor(a: Int, b: Int) -> (Int, Int) {
     r
 }
 
-/// The kW times seconds at which the exact sum is a half past a whole number, or as near it as these figures let it come: the
-/// `steps`-th sum above it.
-fn work_beside_a_half(random: &mut Random, payment: &Payment, steps: Int) -> Option<Int> {
+/// What a kW and second pays, in parts of a penny, and the greatest number of parts that divides every sum and the penny.
+fn parts(payment: &Payment) -> (Int, Int) {
     let one = Payment {
         pieces: vec![(1, 1)],
         ..payment.clone()
     };
     let parts = one.exactly().times(PENNY).exact();
-    let (divisor, factor) = common_divisor(parts.rem_euclid(PENNY), PENNY);
+    (parts, common_divisor(parts.rem_euclid(PENNY), PENNY).0)
+}
+
+/// The kW times seconds at which the exact sum is a half past a whole number, or as near it as these figures let it come: the
+/// `steps`-th sum above it.
+fn work_beside_a_half(random: &mut Random, payment: &Payment, steps: Int) -> Option<Int> {
+    let (parts, divisor) = parts(payment);
+    let factor = common_divisor(parts.rem_euclid(PENNY), PENNY).1;
     let round = PENNY / divisor;
     let wanted = (PENNY / 2).div_euclid(divisor) + steps;
     let least = (wanted.rem_euclid(round) * factor.rem_euclid(round)).rem_euclid(round);
@@ -187,6 +201,31 @@ fn halves(random: &mut Random, payment: &mut Payment, tally: &mut Tally) {
                 host::payment("payment, halves", payment, tally),
                 tally,
             );
+        }
+    }
+}
+
+/// Amounts a part under a half and a part over it, of as many figures as are tried. Few have one: those of which no number of parts
+/// above 1 divides every sum, and of these one in 2,000.
+fn one_part(random: &mut Random, tried: usize, tally: &mut Tally) {
+    for _ in 0..tried {
+        let [price, adjustment] = [(); 2].map(|()| random.between(0, 999) * 10 + 1);
+        let [k, f] = [(); 2].map(|()| random.between(0, 99) * 10 + random.pick(&[1, 3, 7, 9]));
+        let mut payment = Payment {
+            price,
+            adjustment,
+            k,
+            f,
+            pieces: Vec::new(),
+        };
+        if parts(&payment).1 != 1 {
+            continue;
+        }
+        for steps in [-1, 1] {
+            if let Some(work) = work_beside_a_half(random, &payment, steps) {
+                payment.pieces = pieces_of(random, work);
+                host::payment("payment, halves", &payment, tally);
+            }
         }
     }
 }
@@ -223,6 +262,7 @@ fn laws(payment: &Payment, found: Option<Int>, tally: &mut Tally) {
 /// limits; numbers that wrap in 32 bits or fewer.
 pub fn edges(random: &mut Random, tally: &mut Tally) {
     const TOPIC: &str = "payment, edges";
+    one_part(random, 50_000, tally);
     let most = (1_000_000, 1_800);
     let halves = vec![(1_000_000, 900); 2];
     let mut lists = vec![vec![], vec![(0, 0)], vec![(1, 1)], vec![most], halves];
