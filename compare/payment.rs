@@ -59,7 +59,8 @@ impl Payment {
         let mut sum = Fraction::whole(0);
         for &piece in &self.pieces {
             let lost = earned(greater, piece).of(short);
-            sum = sum.plus(earned(self.price, piece).minus(lost)).reduced();
+            let pays = earned(self.price, piece).minus(lost).reduced();
+            sum = sum.plus(pays).reduced();
         }
         sum
     }
