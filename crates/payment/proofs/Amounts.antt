@@ -52,7 +52,11 @@ module _ (price adjustment k f : ℕ) where
   piece-is : (p : Piece) → Is (pieceAmount price adjustment k f p) (work p * plus-part) (work p * minus-part) 3600000000000
   piece-is p = told (minus-is (worth-is price p) (lost-is p)) (omega arith) (omega arith)
 
-  pub sum-is : (ps : List Piece) → Is (total (map (pieceAmount price adjustment k f) ps)) (all ps * (price * 1000000 + max price adjustment * (k * f))) (all ps * (max price adjustment * 1000000)) 3600000000000
+  pub sum-is : (ps : List Piece)
+      → Is (total (map (pieceAmount price adjustment k f) ps))
+      (all ps * (price * 1000000 + max price adjustment * (k * f)))
+      (all ps * (max price adjustment * 1000000))
+      3600000000000
   sum-is ps =
       told (total-is (pieceAmount price adjustment k f) (λ p. work p * plus-part) (λ p. work p * minus-part) 3600000000000 piece-is ps)
       (sum-times plus-part ps)

@@ -65,14 +65,20 @@ module _ {x : Exact} {a b d : ℕ} (i : Is x a b d) where
     abbrev v : ℤ
     v = pos (x .denominator) *ℤ y .numerator
 
+    u-is : (above u ≡ y .denominator * above (x .numerator)) × (below u ≡ y .denominator * below (x .numerator))
+    u-is = (above-times (y .denominator) (x .numerator), below-times (y .denominator) (x .numerator))
+
+    v-is : (above v ≡ x .denominator * above (y .numerator)) × (below v ≡ x .denominator * below (y .numerator))
+    v-is = (above-times (x .denominator) (y .numerator), below-times (x .denominator) (y .numerator))
+
     pub plus-is : Is (plus x y) (a + a') (b + b') d
     plus-is =
-        let e = rw (above-times (y .denominator) (x .numerator), below-times (y .denominator) (x .numerator), above-times (x .denominator) (y .numerator), below-times (x .denominator) (y .numerator)) at (whole.sum u v) in
+        let e = rw (u-is .0, u-is .1, v-is .0, v-is .1) at (whole.sum u v) in
         record { some = mul-pos (i .some) (j .some); same = joined (x .denominator) (y .denominator) d _ _ _ _ _ _ a b a' b' e (i .same) (j .same) }
 
     pub minus-is : Is (minus x y) (a + b') (b + a') d
     minus-is =
-        let e = rw (above-times (y .denominator) (x .numerator), below-times (y .denominator) (x .numerator), above-times (x .denominator) (y .numerator), below-times (x .denominator) (y .numerator)) at (whole.less u v) in
+        let e = rw (u-is .0, u-is .1, v-is .0, v-is .1) at (whole.less u v) in
         let f : below (y .numerator) * d + a' * y .denominator ≡ b' * y .denominator + above (y .numerator) * d = omega (arith, j .same) in
         record { some = mul-pos (i .some) (j .some); same = joined (x .denominator) (y .denominator) d _ _ _ _ _ _ a b b' a' e (i .same) f }
 

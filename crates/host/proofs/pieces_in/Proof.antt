@@ -1,10 +1,7 @@
 -- `host::pieces_in` meets its contract. The loop's invariant is `Filled`, and a turn keeps it by `step`. Assumes nothing.
-use mathlib.Core.Path.{_≡_}
-use Prim.Native.Nat.{_-_, _/_, min}
+use Prim.Native.Nat.{_-_}
 use native.Mathlib.Omega.{arith}
 use borrow.Author.Needs.{needs}
-use denote.Ref.{now}
-use lib.ListN.{length}
 use Rattle.host.proofs.Paying.{Filled, begin, step, done}
 use Rattle.host.proofs.pieces_in.Statement.{statement}
 use Rattle.host.proofs.pieces_in.Tie as tie
