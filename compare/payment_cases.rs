@@ -167,21 +167,19 @@ fn common_divisor(a: Int, b: Int) -> (Int, Int) {
     r
 }
 
-/// What a kW and second pays, in parts of a penny, and the greatest number of parts that divides every sum and the penny.
-fn parts(payment: &Payment) -> (Int, Int) {
+/// What a kW and second pays, in parts of a penny past the whole number below it.
+fn parts(payment: &Payment) -> Int {
     let one = Payment {
         pieces: vec![(1, 1)],
         ..payment.clone()
     };
-    let parts = one.exactly().times(PENNY).exact();
-    (parts, common_divisor(parts.rem_euclid(PENNY), PENNY).0)
+    one.exactly().past_whole().times(PENNY).exact()
 }
 
 /// The kW times seconds at which the exact sum is a half past a whole number, or as near it as these figures let it come: the
 /// `steps`-th sum above it.
 fn work_beside_a_half(random: &mut Random, payment: &Payment, steps: Int) -> Option<Int> {
-    let (parts, divisor) = parts(payment);
-    let factor = common_divisor(parts.rem_euclid(PENNY), PENNY).1;
+    let (divisor, factor) = common_divisor(parts(payment), PENNY);
     let round = PENNY / divisor;
     let wanted = (PENNY / 2).div_euclid(divisor) + steps;
     let least = (wanted.rem_euclid(round) * factor.rem_euclid(round)).rem_euclid(round);
@@ -196,11 +194,8 @@ fn halves(random: &mut Random, payment: &mut Payment, tally: &mut Tally) {
     for steps in -1..=1 {
         if let Some(work) = work_beside_a_half(random, payment, steps) {
             payment.pieces = pieces_of(random, work);
-            laws(
-                payment,
-                host::payment("payment, halves", payment, tally),
-                tally,
-            );
+            let found = host::payment("payment, halves", payment, tally);
+            laws(payment, found, tally);
         }
     }
 }
@@ -218,7 +213,7 @@ fn one_part(random: &mut Random, tried: usize, tally: &mut Tally) {
             f,
             pieces: Vec::new(),
         };
-        if parts(&payment).1 != 1 {
+        if common_divisor(parts(&payment), PENNY).0 != 1 {
             continue;
         }
         for steps in [-1, 1] {
@@ -258,81 +253,100 @@ fn laws(payment: &Payment, found: Option<Int>, tally: &mut Tally) {
     law("as much with full factors", gross == Some(payment.gross()));
 }
 
-/// Every figure at its limits with every other, for pieces at theirs; each length of the bytes; each count and time beside the
-/// limits; numbers that wrap in 32 bits or fewer.
+const EDGES: &str = "payment, edges";
+
 pub fn edges(random: &mut Random, tally: &mut Tally) {
-    const TOPIC: &str = "payment, edges";
     one_part(random, 50_000, tally);
-    let most = (1_000_000, 1_800);
-    let halves = vec![(1_000_000, 900); 2];
-    let mut lists = vec![vec![], vec![(0, 0)], vec![(1, 1)], vec![most], halves];
-    lists.extend([
-        vec![(1_000_001, 0)],
-        vec![(0, 1_801)],
-        vec![(1, 900), (1, 901)],
-    ]);
+    every_figure(tally);
+    counts_and_times(random, tally);
+    each_length(random, tally);
+}
+
+/// Every figure at its limits with every other, for pieces at theirs.
+fn every_figure(tally: &mut Tally) {
+    let lists: [&[(Int, Int)]; 8] = [
+        &[],
+        &[(0, 0)],
+        &[(1, 1)],
+        &[(1_000_000, 1_800)],
+        &[(1_000_000, 900), (1_000_000, 900)],
+        &[(1_000_001, 0)],
+        &[(0, 1_801)],
+        &[(1, 900), (1, 901)],
+    ];
     for pieces in lists {
-        for price in PRICES {
-            for adjustment in PRICES {
-                for (k, f) in FACTORS.iter().flat_map(|&k| FACTORS.map(|f| (k, f))) {
-                    let pieces = pieces.clone();
-                    let payment = Payment {
-                        price,
-                        adjustment,
-                        k,
-                        f,
-                        pieces,
-                    };
-                    host::payment(TOPIC, &payment, tally);
-                }
+        for (price, adjustment) in pairs(&PRICES) {
+            for (k, f) in pairs(&FACTORS) {
+                let payment = Payment {
+                    price,
+                    adjustment,
+                    k,
+                    f,
+                    pieces: pieces.to_vec(),
+                };
+                host::payment(EDGES, &payment, tally);
             }
         }
     }
-    let mut payment = good_figures(random);
-    let mut pay = |pieces: Vec<(Int, Int)>, tally: &mut Tally| {
-        payment.pieces = pieces;
-        host::payment(TOPIC, &payment, tally)
+}
+
+/// Each with each.
+fn pairs(numbers: &[Int]) -> Vec<(Int, Int)> {
+    let with = |&a| numbers.iter().map(move |&b| (a, b));
+    numbers.iter().flat_map(with).collect()
+}
+
+/// Figures within their limits, of which each counts.
+fn some_figures(pieces: Vec<(Int, Int)>) -> Payment {
+    Payment {
+        price: 9_998,
+        adjustment: 9_999,
+        k: 999,
+        f: 997,
+        pieces,
+    }
+}
+
+/// Counts and times beside the limits, with a piece beside its own at either end and in the middle.
+fn counts_and_times(random: &mut Random, tally: &mut Tally) {
+    let mut pay = |pieces| {
+        host::payment(EDGES, &some_figures(pieces), tally);
     };
     for count in (0..=70).chain([127, 128, 129, 256, 320, 65_536, 65_600]) {
-        pay(vec![(0, 0); count], tally);
         for seconds in [0, 1, 1_799, 1_800, 1_801, 3_600] {
-            pay(lasting(random, count, seconds), tally);
+            pay(lasting(random, count, seconds));
         }
         for i in [0, count / 2, count.saturating_sub(1)] {
-            for (quantity, duration) in [(1_000_000, 1_800), (1_000_001, 0), (0, 1_801), (MAX, 1)] {
+            for edge in [(1_000_000, 1_800), (1_000_001, 0), (0, 1_801), (MAX, 1)] {
                 let mut pieces = vec![(0, 0); count];
                 if let Some(piece) = pieces.get_mut(i) {
-                    *piece = (quantity, duration);
+                    *piece = edge;
                 }
-                pay(pieces, tally);
+                pay(pieces);
             }
         }
     }
-    // Durations whose sum is small in 32 bits or fewer.
-    for (count, duration) in [
-        (2, 0x8000_0000),
-        (4, 0x4000_0000),
-        (64, 0x400_0000),
-        (16, 0x1000),
-    ] {
+    // Durations whose sum is small in 32 or 16 bits.
+    for (count, duration) in [(2, 1 << 31), (4, 1 << 30), (64, 1 << 26), (16, 1 << 12)] {
         for more in [0, 1, 1_800] {
             let mut pieces = vec![(1, duration); count];
             pieces[0].1 += more;
-            pay(pieces, tally);
+            pay(pieces);
         }
     }
-    let payment = Payment {
-        pieces: lasting(random, 66, 1_800),
-        ..good_figures(random)
-    };
+}
+
+/// Each length of the bytes of 66 pieces, also with a price above its limit.
+fn each_length(random: &mut Random, tally: &mut Tally) {
+    let payment = some_figures(lasting(random, 66, 1_800));
     let over = Payment {
         price: 10_001,
         ..payment.clone()
     };
     let bytes = payment.bytes();
     for length in 0..=bytes.len() {
-        host::payment_of(TOPIC, &payment, &bytes[..length], tally);
-        host::payment_of(TOPIC, &over, &bytes[..length], tally);
+        host::payment_of(EDGES, &payment, &bytes[..length], tally);
+        host::payment_of(EDGES, &over, &bytes[..length], tally);
     }
 }
 

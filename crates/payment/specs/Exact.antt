@@ -35,7 +35,7 @@ total (x ∷ xs) = plus x (total xs)
 
 -- ---- rounding
 
--- z / d rounded down, below 0 too: `negsuc n` is −(n + 1)
+-- z / d rounded down, below 0 too: −(n + 1) / d, of which `negsuc n` is the numerator, to −(n / d + 1)
 abbrev pub quotient : ℤ → ℕ → ℤ
 quotient (pos n) d = pos (n / d)
 quotient (negsuc n) d = negsuc (n / d)

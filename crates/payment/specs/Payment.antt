@@ -1,4 +1,5 @@
--- Paper 02, No. 8: real-time payment, source document 003, paragraph 17. Assumes nothing.
+-- Paper 02, No. 8: real-time payment, source document 003, paragraph 17. `adjustment` is the Minimum Adjustment Price; both prices are
+-- in pence per MW and hour, K and F in thousandths. Assumes nothing.
 use mathlib.Core.Path.{_≡_}
 use mathlib.Core.Bool.{Bool, not, cond, _&&_}
 use mathlib.Core.List.{List, [], _∷_, map}
@@ -36,7 +37,7 @@ piecesRule ps = leb (ps .count) 64 && every quantityRule (piecesOf ps) && leb (s
 
 -- ---- the amount, in pence
 
--- a price, in pence per MW and hour, times quantity and time
+-- a price times quantity and time, in MW and hours
 abbrev pub worth : ℕ → Piece → Exact
 worth price p = times (ratio price 1) (times (ratio (p .quantity) 1000) (ratio (p .duration) 3600))
 

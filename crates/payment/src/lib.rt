@@ -34,7 +34,7 @@ enum Measured {
     Over,
 }
 
-// 1 in thousandths times thousandths.
+// 1, where K times F is counted.
 const MILLION: u64 = 1_000_000;
 
 // A penny in parts: 1,000 kW times 3,600 seconds times a million.
@@ -42,6 +42,7 @@ const PENNY: u64 = 3_600_000_000_000;
 
 const HALF: u64 = 1_800_000_000_000;
 
+// A part less than half a penny.
 const UNDER_HALF: u64 = 1_799_999_999_999;
 
 fn greater(a: u64, b: u64) -> u64
