@@ -272,6 +272,10 @@ static void payments(void) {
     pieces[127] = 28;
     pieces[126] = 1000001;
     payment("payment, a quantity of 1,000,001", -20, 0, 10000, 10000, 1000, 1000, 512);
+    put_pieces(1, (uint32_t)-1, 1);
+    payment("payment, a quantity of -1 as C converts it", -20, 0, 10000, 10000, 1000, 1000, 8);
+    put_pieces(1, 1, (uint32_t)INT32_MIN);
+    payment("payment, a duration of the least int32_t as C converts it", -20, 0, 10000, 10000, 1000, 1000, 8);
     put_pieces(64, 0, 67108864);
     payment("payment, durations of 2^32 together", -20, 0, 10000, 10000, 1000, 1000, 512);
 }

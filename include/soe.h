@@ -6,15 +6,16 @@
  *
  * Pointers: each is the caller's before and after the call, nothing is kept, allocated or freed, and only what is named as
  * output is written. The caller sees to it that a pointer is not null, also where its length is 0, that it leads to as many
- * bytes as its length says, or to an int64_t, and that an output overlaps no other argument. Every other argument may have any value.
+ * bytes as its length says, or to an int64_t, and that an output overlaps no other argument. Every other argument may have any
+ * value.
  *
  * Unsigned numbers: quantities, direction, energies, submitted limit, event, available, armed, prices, K and F are uint32_t, and
  * times uint64_t, so that none below 0 can be handed in. A host that holds one in a signed or wider type compares it with 0 and the
  * greatest number of the parameter's type before the call and refuses it itself, since C converts it without a warning. An int32_t
  * below 0 becomes a number above 2,147,483,647: soe_terms refuses that as a quantity with -1; soe_quantity as a direction, available
  * or limit with -12 and as an energy with -18; soe_instruction as an event or a start's available or armed with -13 and as a start's
- * energy with -17, while its limit may be any number; and soe_payment as a price, K or F with -20. An int64_t below 0 becomes a time far ahead, and every event after it would
- * be refused with -15. */
+ * energy with -17, while its limit may be any number; and soe_payment as a price, K or F, or in a piece, with -20. An int64_t below
+ * 0 becomes a time far ahead, and every event after it would be refused with -15. */
 #ifndef SOE_H
 #define SOE_H
 
