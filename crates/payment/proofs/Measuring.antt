@@ -6,6 +6,7 @@ use Prim.Native.Nat.{ℕ, _+_, _*_, _≤_, _<_}
 use native.Mathlib.Nat.{mul-le-mul-right}
 use native.Mathlib.Omega.{arith}
 use borrow.Author.Tests.{le-leb, lt-leb}
+use lib.Dec.{leb}
 use lib.ListN.{length, take, getD}
 use Rattle.common.specs.Lists.{sum, every}
 use Rattle.common.proofs.Chains.{rest, next, none-left}
@@ -19,9 +20,6 @@ blank = record { quantity = 0; duration = 0 }
 
 abbrev pub at : List Piece → ℕ → Piece
 at pieces i = getD pieces i blank
-
-abbrev duration : Piece → ℕ
-duration p = p .duration
 
 -- ---- by the rule
 
@@ -41,6 +39,7 @@ module _ (ps : Pieces) where
 -- ---- the loop
 
 module _ (count : ℕ) (pieces : List Piece) where
+  -- the first i pieces kept their limit, and have s seconds and w kW and seconds; the others decide the rest
   pub record Read (s w i : ℕ) : Type 0 where
     pub within : i ≤ count
     pub most : count ≤ 64
@@ -103,22 +102,13 @@ module _ (ps : Pieces) {s w i : ℕ} (r : Read (ps .count) (ps .pieces) s w i) w
   unfolding piecesRule
   too-much h b = rw (le-leb (ps .count) 64 (r .most), bad (ps .count) (ps .pieces) r h b)
 
-  pub too-long : ps .count ≤ i → 1800 < s → piecesRule ps ≡ false
+  -- once all have been read, their seconds decide
+  decided : ps .count ≤ i → piecesRule ps ≡ leb s 1800
   unfolding piecesRule
-  too-long h b =
-      rw (
-        le-leb (ps .count) 64 (r .most),
-        all-good (ps .count) (ps .pieces) r h,
-        ← all-seconds (ps .count) (ps .pieces) r h,
-        lt-leb s 1800 b,
-      )
+  decided h = rw (le-leb (ps .count) 64 (r .most), all-good (ps .count) (ps .pieces) r h, ← all-seconds (ps .count) (ps .pieces) r h)
+
+  pub too-long : ps .count ≤ i → 1800 < s → piecesRule ps ≡ false
+  too-long h b = decided h ∙ lt-leb s 1800 b
 
   pub holds : ps .count ≤ i → s ≤ 1800 → piecesRule ps ≡ true
-  unfolding piecesRule
-  holds h b =
-      rw (
-        le-leb (ps .count) 64 (r .most),
-        all-good (ps .count) (ps .pieces) r h,
-        ← all-seconds (ps .count) (ps .pieces) r h,
-        le-leb s 1800 b,
-      )
+  holds h b = decided h ∙ le-leb s 1800 b
