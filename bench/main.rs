@@ -85,6 +85,7 @@ extern "C" {
         pieces_length: usize,
         amount: *mut i64,
     ) -> i64;
+    fn soe_test_day(seed: u32, buffer: *mut u16, count: usize) -> i64;
 }
 
 fn proved_period(q: [u32; 3], curves: [u32; 3], readings: &[u16]) -> u64 {
@@ -524,6 +525,20 @@ extern "C" fn plain_payment(
     };
     unsafe { *amount = pence };
     0
+}
+
+// ---- the test day in plain Rust
+
+extern "C" fn plain_test_day(seed: u32, buffer: *mut u16, count: usize) -> i64 {
+    if seed > 2_147_483_647 {
+        return -21;
+    }
+    let mut last = seed;
+    for reading in unsafe { std::slice::from_raw_parts_mut(buffer, count) } {
+        last = last.wrapping_mul(1_103_515_245).wrapping_add(12_345) & 0x7fff_ffff;
+        *reading = (49_500 + last / 65_536 % 1_001) as u16;
+    }
+    last as i64
 }
 
 // ---- the requirement in plain Rust
@@ -1502,6 +1517,32 @@ fn payments(random: &mut Random) {
     }
 }
 
+type Fill = unsafe extern "C" fn(u32, *mut u16, usize) -> i64;
+
+const TEST_DAY_WAYS: [Fill; 2] = [soe_test_day, plain_test_day];
+
+fn test_days(random: &mut Random) {
+    for count in [1, 100, 3_600] {
+        let seeds: Vec<u32> = (0..1_000).map(|_| random.below(1 << 24)).collect();
+        for &seed in seeds.iter().chain(&[0, (1 << 31) - 1, 1 << 31, u32::MAX]) {
+            let [proved, plain] = TEST_DAY_WAYS.map(|way| {
+                let mut buffer = vec![7; count];
+                (unsafe { way(seed, buffer.as_mut_ptr(), count) }, buffer)
+            });
+            assert_eq!(proved, plain);
+        }
+        let ways = TEST_DAY_WAYS.map(|way| {
+            let (seeds, buffer) = (&seeds, Cell::new(vec![7; count]));
+            move |i: usize| {
+                let mut lent = buffer.take();
+                black_box(unsafe { way(black_box(seeds[i]), lent.as_mut_ptr(), count) });
+                buffer.set(black_box(lent));
+            }
+        });
+        compare("test day", &format!("1,000 seeds, readings {count}"), seeds.len(), &ways);
+    }
+}
+
 type Instruct = unsafe extern "C" fn(*mut u8, usize, u32, u64, u64, u32, u32, u32, u32) -> i64;
 
 const INSTRUCTION_WAYS: [Instruct; 2] = [soe_instruction, plain_instruction];
@@ -1649,6 +1690,7 @@ fn main() {
     quantities(&mut random);
     instructions(&mut random);
     payments(&mut random);
+    test_days(&mut random);
     println!("{:14} {:38} {:>9} {}", "work", "of", "table, us", title("steps, us"));
     for kinds in [&within[..], &any] {
         two_ways([proved_period_by_table, proved_period], same, &SERVED, kinds);

@@ -280,6 +280,32 @@ static void payments(void) {
     payment("payment, durations of 2^32 together", -20, 0, 10000, 10000, 1000, 1000, 512);
 }
 
+/* A test day's readings and last seed from seeds whose steps are easy by hand: 0 becomes 12,345, which is less than 65,536. From 1 the
+ * C standard's example of rand gives 16,838, 5,758 and 10,113, which are 822, 753 and 103 by 1,001. The readings beside the buffer and,
+ * on a refusal, in it are as they were. */
+static void test_day(const char *what, int64_t expected, uint32_t seed, size_t count, uint16_t first, uint16_t second, uint16_t third) {
+    const uint16_t readings[] = {first, second, third};
+    uint16_t buffer[5] = {7, 77, 777, 7777, 17777}, after[5];
+    memcpy(after, buffer, sizeof after);
+    if (expected >= 0)
+        memcpy(after + 1, readings, count * sizeof *readings);
+    int64_t got = soe_test_day(seed, buffer + 1, count);
+    check(what, got, expected, memcmp(buffer, after, sizeof after) == 0);
+}
+
+static void test_days(void) {
+    test_day("test day, no reading", 0, 0, 0, 0, 0, 0);
+    test_day("test day, no reading from the greatest seed", 2147483647, 2147483647, 0, 0, 0, 0);
+    test_day("test day, one reading from 0", 12345, 0, 1, 49500, 0, 0);
+    test_day("test day, one reading from 1", 1103527590, 1, 1, 50322, 0, 0);
+    test_day("test day, three readings from 1", 662824084, 1, 3, 50322, 50253, 49603);
+    test_day("test day, the two after the first of these", 662824084, 1103527590, 2, 50253, 49603, 0);
+    test_day("test day, seed 2,147,483,648", -21, 2147483648u, 3, 0, 0, 0);
+    test_day("test day, seed 2,147,483,648 for no reading", -21, 2147483648u, 0, 0, 0, 0);
+    test_day("test day, seed -1 as C converts it", -21, (uint32_t)-1, 3, 0, 0, 0);
+    test_day("test day, a refusal as the next seed", -21, (uint32_t)-21, 3, 0, 0, 0);
+}
+
 int main(void) {
     report("report, the paper's example", LINE1, "        1", 189, 488, 0);
     report("report, bytes past 488 are kept", LINE1, "        1", 189, ROOM, 0);
@@ -349,5 +375,6 @@ int main(void) {
 
     instructions();
     payments();
+    test_days();
     return differences;
 }

@@ -5,6 +5,7 @@ use crate::model::{self, Int, Terms, Unit};
 use crate::payment::Payment;
 use crate::payment_cases::kind_of;
 use crate::tally::{stop, Tally};
+use crate::test_day;
 
 extern "C" {
     fn soe_report(input: *const u8, input_length: usize, output: *mut u8, room: usize) -> i64;
@@ -56,6 +57,8 @@ extern "C" {
         pieces_length: usize,
         amount: *mut i64,
     ) -> i64;
+
+    fn soe_test_day(seed: u32, buffer: *mut u16, count: usize) -> i64;
 }
 
 /// The bytes behind the output, of which a call is lent the first `room`.
@@ -204,7 +207,7 @@ pub fn quantity(topic: &'static str, direction: u32, unit: &Unit, tally: &mut Ta
     quantity_of(topic, direction, unit, &bytes_of(&unit.points), tally)
 }
 
-/// The bytes before and after those that an event's call is lent.
+/// The bytes before and after those that an event's call is lent, and the readings before and after a test day's.
 const BESIDE: usize = 17;
 
 /// The events of soe.h by their numbers; 0 stands for any other.
@@ -315,4 +318,33 @@ pub fn payment(topic: &'static str, payment: &Payment, tally: &mut Tally) -> Opt
         tally.pay(kind_of(payment.exactly()));
     }
     amount
+}
+
+/// Compares the number, every reading of the lent buffer and those beside it. Gives the number and the buffer afterwards.
+pub fn test_day(
+    topic: &'static str,
+    seed: u32,
+    count: usize,
+    tally: &mut Tally,
+) -> (i64, Vec<u16>) {
+    let lent = BESIDE..BESIDE + count;
+    let before: Vec<u16> = (0..lent.end + BESIDE).map(|i| (i * 7 + 1) as u16).collect();
+    let mut expected = before.clone();
+    let number = match test_day::fill(seed.into(), &mut expected[lent.clone()]) {
+        Ok(last) => last as i64,
+        Err(number) => -number,
+    };
+    let mut buffer = before;
+    // SAFETY: the pointer is not null, also for no readings, and leads to as many of them as the count says.
+    let found = unsafe { soe_test_day(seed, buffer[lent.clone()].as_mut_ptr(), count) };
+    if found != number || buffer != expected {
+        let shown = format!("soe_test_day, seed {seed}, {count} readings\n");
+        let (expected, buffer) = (
+            format!("{number}, {expected:?}"),
+            format!("{found}, {buffer:?}"),
+        );
+        stop(topic, shown.as_bytes(), &expected, &buffer);
+    }
+    tally.count(topic, "soe_test_day", 0.max(-number));
+    (number, buffer[lent].to_vec())
 }

@@ -1,8 +1,9 @@
 //! Compares the proved code with a second program that was written from papers 01 and 02 alone: the functions of include/soe.h
-//! as a host calls them, the table that the program containment_table prints, and the rest through the program ledger_trace.
+//! as a host calls them, what the programs containment_table and test_readings print, and the rest through the program
+//! ledger_trace.
 //!
-//! `compare SEED ROUNDS LEDGER_TRACE CONTAINMENT_TABLE`, from the repository's root. It stops at the first difference with exit
-//! status 1. `compare gain LEDGER_TRACE` prints the table of docs/WATTS.md.
+//! `compare SEED ROUNDS LEDGER_TRACE CONTAINMENT_TABLE TEST_READINGS`, from the repository's root. It stops at the first
+//! difference with exit status 1. `compare gain LEDGER_TRACE` prints the table of docs/WATTS.md.
 
 mod containment;
 mod day;
@@ -18,6 +19,8 @@ mod payment;
 mod payment_cases;
 mod random;
 mod tally;
+mod test_day;
+mod test_day_cases;
 mod trace;
 mod trace_cases;
 
@@ -35,23 +38,29 @@ fn main() {
                 println!("{row}");
             }
         }
-        [seed, rounds, ledger_trace, containment_table] => {
+        [seed, rounds, ledger_trace, containment_table, test_readings] => {
             let (Ok(seed), Ok(rounds)) = (seed.parse(), rounds.parse()) else {
                 usage();
             };
-            compare(seed, rounds, ledger_trace, containment_table);
+            compare(seed, rounds, ledger_trace, containment_table, test_readings);
         }
         _ => usage(),
     }
 }
 
 fn usage() -> ! {
-    eprintln!("compare SEED ROUNDS LEDGER_TRACE CONTAINMENT_TABLE");
+    eprintln!("compare SEED ROUNDS LEDGER_TRACE CONTAINMENT_TABLE TEST_READINGS");
     eprintln!("compare gain LEDGER_TRACE");
     std::process::exit(2);
 }
 
-fn compare(seed: u64, rounds: u64, ledger_trace: &str, containment_table: &str) {
+fn compare(
+    seed: u64,
+    rounds: u64,
+    ledger_trace: &str,
+    containment_table: &str,
+    test_readings: &str,
+) {
     let random = &mut Random::new(seed);
     let tally = &mut Tally::default();
     let runs = &mut Runs::new(ledger_trace.to_string());
@@ -60,9 +69,12 @@ fn compare(seed: u64, rounds: u64, ledger_trace: &str, containment_table: &str) 
     containment::compare(containment_table, tally);
     day::compare(runs, tally);
     gain::compare(runs, tally);
+    test_day_cases::readme(tally);
     host_cases::damaged_reports(tally);
     host_cases::quantity_edges(tally);
     payment_cases::edges(random, tally);
+    test_day_cases::edges(tally);
+    test_day_cases::lines(test_readings, tally);
     instruction_cases::edges(tally);
     instruction_cases::damaged(tally);
     instruction_cases::lists(random, 2_000, tally);
@@ -78,6 +90,8 @@ fn compare(seed: u64, rounds: u64, ledger_trace: &str, containment_table: &str) 
         host_cases::reports(random, 1_000, tally);
         host_cases::damaged_random_report(random, tally);
         payment_cases::any(random, 500, tally);
+        test_day_cases::any(random, 50, tally);
+        test_day_cases::any_line(random, test_readings, tally);
         instruction_cases::lists(random, 50, tally);
         instruction_cases::made_up(random, 500, tally);
         instruction_cases::any_damaged(random, 500, tally);
@@ -112,6 +126,9 @@ fn compare(seed: u64, rounds: u64, ledger_trace: &str, containment_table: &str) 
     println!("payments by the side of 0 on which the exact sum lies, and how many lie where above the whole number below");
     tally.print_amounts();
     payment_cases::all_reached(tally);
+    println!("readings of test days");
+    tally.print_readings();
+    test_day_cases::all_reached(tally);
     println!(
         "compare: {} cases, no difference (seed {seed})",
         tally.total()

@@ -11,6 +11,7 @@ pub struct Tally {
     kinds: BTreeMap<[&'static str; 4], u64>,
     falls: BTreeMap<(usize, &'static str), BTreeMap<Int, u64>>,
     amounts: BTreeMap<&'static str, BTreeMap<&'static str, u64>>,
+    readings: BTreeMap<u16, u64>,
 }
 
 impl Tally {
@@ -55,6 +56,18 @@ impl Tally {
         amounts.and_then(|a| a.get(place)).copied().unwrap_or(0)
     }
 
+    /// A test day had these readings.
+    pub fn read(&mut self, readings: &[u16]) {
+        for &reading in readings {
+            *self.readings.entry(reading).or_default() += 1;
+        }
+    }
+
+    /// The readings that test days had, each once, in order.
+    pub fn readings(&self) -> impl Iterator<Item = &u16> {
+        self.readings.keys()
+    }
+
     pub fn total(&self) -> u64 {
         self.counts.values().flat_map(|n| n.values()).sum()
     }
@@ -79,6 +92,16 @@ impl Tally {
         for (side, amounts) in &self.amounts {
             println!("{side:16} {}", each(amounts));
         }
+    }
+
+    /// How many readings test days had, how many different ones, and the ends of these.
+    pub fn print_readings(&self) {
+        let all: u64 = self.readings.values().sum();
+        let (first, last) = (self.readings().next(), self.readings().last());
+        let ends = first
+            .zip(last)
+            .map_or(String::new(), |(a, b)| format!(" from {a} to {b}"));
+        println!("{all:16} {} different{ends}", self.readings.len());
     }
 
     /// A line for each state, before what was due and after it: how often each event led where, or got which refusal.

@@ -5,17 +5,17 @@
  * in which they stand below, and the first whose cause holds is returned.
  *
  * Pointers: each is the caller's before and after the call, nothing is kept, allocated or freed, and only what is named as
- * output is written. The caller sees to it that a pointer is not null, also where its length is 0, that it leads to as many
- * bytes as its length says, or to an int64_t, and that an output overlaps no other argument. Every other argument may have any
- * value.
+ * output is written. The caller sees to it that a pointer is not null, also where its length or count is 0, that it leads to as
+ * many bytes as its length says, to as many uint16_t as its count says, or to an int64_t, and that an output overlaps no other
+ * argument. Every other argument may have any value.
  *
- * Unsigned numbers: quantities, direction, energies, submitted limit, event, available, armed, prices, K and F are uint32_t, and
- * times uint64_t, so that none below 0 can be handed in. A host that holds one in a signed or wider type compares it with 0 and the
- * greatest number of the parameter's type before the call and refuses it itself, since C converts it without a warning. An int32_t
- * below 0 becomes a number above 2,147,483,647: soe_terms refuses that as a quantity with -1; soe_quantity as a direction, available
- * or limit with -12 and as an energy with -18; soe_instruction as an event or a start's available or armed with -13 and as a start's
- * energy with -17, while its limit may be any number; and soe_payment as a price, K or F, or in a piece, with -20. An int64_t below
- * 0 becomes a time far ahead, and every event after it would be refused with -15. */
+ * Unsigned numbers: quantities, direction, energies, submitted limit, event, available, armed, prices, K, F and seed are uint32_t,
+ * and times uint64_t, so that none below 0 can be handed in. A host that holds one in a signed or wider type compares it with 0 and
+ * the greatest number of the parameter's type before the call and refuses it itself, since C converts it without a warning. An
+ * int32_t below 0 becomes a number above 2,147,483,647: soe_terms refuses that as a quantity with -1; soe_quantity as a direction,
+ * available or limit with -12 and as an energy with -18; soe_instruction as an event or a start's available or armed with -13 and as
+ * a start's energy with -17, while its limit may be any number; soe_payment as a price, K or F, or in a piece, with -20; and
+ * soe_test_day as a seed with -21. An int64_t below 0 becomes a time far ahead, and every event after it would be refused with -15. */
 #ifndef SOE_H
 #define SOE_H
 
@@ -133,6 +133,17 @@ int64_t soe_instruction(uint8_t *machine, size_t machine_length, uint32_t event,
  *        1,000,000; or the durations are above 1,800 seconds together */
 int64_t soe_payment(uint32_t price, uint32_t adjustment, uint32_t k, uint32_t f,
                     const uint8_t *pieces, size_t pieces_length, int64_t *amount);
+
+/* A test day: frequency readings in mHz that anyone can repeat from a seed of 0 to 2,147,483,647. Each step makes the next seed,
+ * 1,103,515,245 times the old, plus 12,345, modulo 2,147,483,648, and a reading of it: 49,500 plus the remainder of (new seed divided
+ * by 65,536, rounded down) by 1,001. So each reading is 49,500 to 50,500.
+ *
+ * 0 to 2,147,483,647: `count` readings, any number, were written to the buffer, and this is the last seed; for a count of 0 the given
+ * one. To fill a first part and then, from the returned seed, the rest is to fill the whole.
+ *
+ * Refusal, the whole buffer being as it was:
+ *   -21  the seed is above 2,147,483,647 */
+int64_t soe_test_day(uint32_t seed, uint16_t *buffer, size_t count);
 
 #ifdef __cplusplus
 }

@@ -94,6 +94,12 @@ module _ {A : Type 0} (holds : A → Bool) where
   every-same x h zero = refl
   every-same x h (suc n) = rw h (every-same x h n)
 
+  -- a test that holds wherever another does
+  pub every-so : (so : A → Bool) → ((x : A) → holds x ≡ true → so x ≡ true) → (xs : List A) → every holds xs ≡ true → every so xs ≡ true
+  unfolding every
+  every-so so h [] e = refl
+  every-so so h (x ∷ xs) e = let w = both-true (holds x) (every holds xs) e in rw (h x (w .0)) (every-so so h xs (w .1))
+
   -- a test of two parts, part by part
   pub every-both : (one other : A → Bool) → ((x : A) → holds x ≡ one x && other x) → (xs : List A) → every holds xs ≡ every one xs && every other xs
   unfolding every

@@ -3,12 +3,13 @@ use mathlib.Core.Path.{_≡_, refl, sym, ap, _∙_}
 use mathlib.Core.Bool.{Bool, true, false, cond}
 use mathlib.Core.List.{List, [], _∷_, _++_, append-assoc}
 use Prim.Native.Nat.{ℕ, suc, _+_, _-_, _≤_, _<_}
+use native.Mathlib.Decide.{decLe}
 use native.Mathlib.Numerals.{add-one}
 use native.Mathlib.Omega.{arith}
 use borrow.Author.Tests.{le-leb, lt-leb}
 use lib.Dec.{leb}
-use lib.ListN.{length, take, drop, set, length-take, length-drop, length-set}
-use lib.Seq.{paste, paste-zero, length-paste, take-paste, take-all, drop-drop, drop-set-lt, take-suc-set, set-split, append-snoc}
+use lib.ListN.{length, take, drop, set, length-append, length-take, length-drop, length-set}
+use lib.Seq.{paste, paste-zero, length-paste, take-paste, drop-paste, take-all, take-length, drop-drop, drop-set-lt, take-suc-set, set-split, append-snoc}
 use Rattle.common.specs.Lists.{placed}
 
 -- ---- t, which has w entries, in a list
@@ -58,8 +59,38 @@ comes-back list last at w f wide h e =
     rw (pastes at w (f w) list (wide w) h, e, d, k, drop-drop w at list, whole)
     (sym (append-assoc (take at list) (f w) (drop (at + w) list)))
 
+-- the list is as long as before
+pub placed-length : (at : ℕ) (t list : List ℕ) → length (placed at t list) ≡ length list
+placed-length at t list = by (decLe (at + length t) (length list))
+  where
+    by : Dec (at + length t ≤ length list) → length (placed at t list) ≡ length list
+    by (yes h) = rw (pastes at (length t) t list refl h) (length-paste list at t (length t) h (omega arith))
+    by (no h) = rw (stays at (length t) t list refl (omega arith))
+
+-- t placed behind p, which has w entries
+pub placed-behind : (at w : ℕ) (p t list : List ℕ) → length p ≡ w → at + w + length t ≤ length list
+    → placed (at + w) t (placed at p list) ≡ placed at (p ++ t) list
+placed-behind at w p t list wide h =
+    let all : length (p ++ t) ≡ w + length t = rw (length-append p t, wide) in
+    let end : at + (w + length t) ≡ at + w + length t = omega arith in
+    let first = paste list at p w in
+    let past : drop (at + w + length t) first ≡ drop (at + w + length t) list =
+    sym (drop-drop (length t) (at + w) first) ∙ ap (drop (length t)) (drop-paste list at p w (omega arith) (omega arith)) ∙ drop-drop (length t) (at + w) list in
+    rw (
+      pastes at w p list wide (omega arith),
+      pastes (at + w) (length t) t first refl (omega (arith, length-paste list at p w (omega arith) (omega arith))),
+      pastes at (w + length t) (p ++ t) list all (omega arith),
+      take-paste list at p w (omega arith) (omega arith),
+      past,
+      end,
+      take-all w p (omega arith),
+      take-length t,
+      take-all (w + length t) (p ++ t) (omega arith),
+    )
+    (simp append-assoc)
+
 -- a store of one entry
-stores : (list : List ℕ) (at b : ℕ) → at < length list → set list at b ≡ placed at (b ∷ []) list
+pub stores : (list : List ℕ) (at b : ℕ) → at < length list → set list at b ≡ placed at (b ∷ []) list
 stores list at b h =
     rw (pastes at 1 (b ∷ []) list refl (omega arith), add-one at)
     (set-split list at b h ∙ sym (append-snoc (take at list) b (drop (suc at) list)))

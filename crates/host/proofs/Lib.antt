@@ -3,3 +3,4 @@ pub mod Instructing
 pub mod MachineBytes
 pub mod Numbers
 pub mod Paying
+pub mod TestDay

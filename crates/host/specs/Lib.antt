@@ -5,3 +5,4 @@ pub mod Instruction
 pub mod MachineBytes
 pub mod Pieces
 pub mod Points
+pub mod TestDay

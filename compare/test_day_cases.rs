@@ -1,0 +1,302 @@
+//! Cases for the test day: seeds and lengths at their limits, splits, readings at both ends, lines damaged at every byte, and the
+//! day from seed to ledger that README.md shows.
+
+use crate::day::{call, hold, read};
+use crate::host;
+use crate::model::Int;
+use crate::random::Random;
+use crate::tally::{printed, stop, Tally};
+use crate::test_day;
+use crate::trace::Script;
+use std::io::{ErrorKind, Write};
+use std::process::{Command, Output, Stdio};
+
+const GREATEST: u32 = 2_147_483_647;
+
+const SEEDS: [u32; 12] = [
+    0,
+    1,
+    2,
+    0xffff,
+    0x1_0000,
+    GREATEST - 1,
+    GREATEST,
+    GREATEST + 1,
+    GREATEST + 2,
+    0xc000_0000,
+    u32::MAX - 1,
+    u32::MAX,
+];
+
+// From C
+
+/// The step is that of the example in the C standard's section on rand, which gives these from seed 1 before the remainder by 1,001.
+const RAND: [Int; 8] = [16_838, 5_758, 10_113, 17_515, 31_051, 5_627, 23_010, 7_419];
+
+/// The seed before `new`: the step's factor is odd, and this is what undoes it.
+fn seed_before(new: Int) -> u32 {
+    const MODULUS: Int = 1 << 31;
+    let mut factor = 1;
+    for _ in 0..5 {
+        factor = (factor * (2 - 1_103_515_245 * factor)).rem_euclid(MODULUS);
+    }
+    ((new - 12_345) * factor).rem_euclid(MODULUS) as u32
+}
+
+/// Fills a buffer whole and in two parts, the second from the returned seed. No. 9: this "equals filling the whole", and "readings
+/// lie from 49,500 to 50,500 for every seed".
+fn in_parts(topic: &'static str, seed: u32, count: usize, first: usize, tally: &mut Tally) {
+    let whole = host::test_day(topic, seed, count, tally);
+    let (returned, mut parts) = host::test_day(topic, seed, first, tally);
+    let Ok(returned) = u32::try_from(returned) else {
+        return;
+    };
+    let (last, rest) = host::test_day(topic, returned, count - first, tally);
+    parts.extend(rest);
+    let parts = (last, parts);
+    let range = 49_500..=50_500;
+    if whole != parts || !whole.1.iter().all(|r| range.contains(r)) {
+        let input = format!("soe_test_day, seed {seed}, {count} readings, {first} and the rest\n");
+        let expected = format!("in {range:?}, and as the whole: {whole:?}");
+        stop(topic, input.as_bytes(), &expected, &format!("{parts:?}"));
+    }
+    tally.read(&whole.1);
+}
+
+pub fn edges(tally: &mut Tally) {
+    const TOPIC: &str = "test day, edges";
+    let mut readings = [0; 8];
+    let last = test_day::fill(1, &mut readings);
+    let known = RAND.map(|n| (49_500 + n % 1_001) as u16);
+    printed("the readings of seed 1", known, readings);
+    let mut new = 1;
+    for n in RAND {
+        new = test_day::next_seed(new);
+        printed("rand of the C standard", n, new / 65_536);
+    }
+    printed("the last seed of seed 1", Ok(new), last);
+    for seed in SEEDS {
+        for count in 0..=5 {
+            for first in 0..=count {
+                in_parts(TOPIC, seed, count, first, tally);
+            }
+        }
+        for first in [0, 1, 1_799, 3_599, 3_600] {
+            in_parts(TOPIC, seed, 3_600, first, tally);
+        }
+        for count in [3_599, 3_601, 28_800, 36_000] {
+            host::test_day(TOPIC, seed, count, tally);
+        }
+    }
+    // New seeds at which the quotient by 65,536 steps, and such at which its remainder by 1,001 turns.
+    for quotient in [
+        0, 1, 2, 1_000, 1_001, 1_002, 2_001, 2_002, 16_384, 32_766, 32_767,
+    ] {
+        for past in [0, 1, 2, 0x7fff, 0x8000, 0xfffe, 0xffff] {
+            let new = 0x1_0000 * quotient + past;
+            let seed = seed_before(new);
+            printed("the seed before", new, test_day::next_seed(seed.into()));
+            in_parts(TOPIC, seed, 2, 1, tally);
+        }
+    }
+}
+
+pub fn any(random: &mut Random, count: usize, tally: &mut Tally) {
+    for _ in 0..count {
+        let greatest = random.pick(&[GREATEST, GREATEST, GREATEST, u32::MAX]);
+        let seed = random.within(0, greatest.into()) as u32;
+        let length = random.pick(&[0, 1, 2, 3, 4, 5, 63, 64, 65, 3_600]);
+        let first = random.below(length + 1);
+        in_parts("test day", seed, length, first, tally);
+    }
+}
+
+/// Stops where a reading from 49,500 to 50,500 never came.
+pub fn all_reached(tally: &Tally) {
+    if !(49_500..=50_500).eq(tally.readings().copied()) {
+        stop("test day", b"", "each from 49,500 to 50,500", "not each");
+    }
+}
+
+// The program test_readings
+
+/// Hands the program a text; it may have ended before it read all of it.
+fn run(program: &str, text: &[u8]) -> Output {
+    let mut child = Command::new(program)
+        .stdin(Stdio::piped())
+        .stdout(Stdio::piped())
+        .spawn()
+        .unwrap_or_else(|e| panic!("{program}: {e}"));
+    let mut input = child.stdin.take().unwrap();
+    match input.write_all(text) {
+        Err(e) if e.kind() != ErrorKind::BrokenPipe => panic!("{program}: {e}"),
+        _ => drop(input),
+    }
+    child
+        .wait_with_output()
+        .unwrap_or_else(|e| panic!("{program}: {e}"))
+}
+
+/// Compares what the program prints.
+fn line(topic: &'static str, program: &str, text: &[u8], tally: &mut Tally) {
+    let (number, expected) = test_day::printed(text);
+    let output = run(program, text);
+    if !output.status.success() || output.stdout != expected.as_bytes() {
+        let found = String::from_utf8_lossy(&output.stdout);
+        let found = format!("{}\n{found}", output.status);
+        stop(topic, text, &expected, &found);
+    }
+    tally.count(topic, "line", number);
+}
+
+/// Bytes that stand for others in a damaged line.
+const BYTES: [u8; 16] = [
+    b' ', b'0', b'1', b'2', b'9', b'\n', b'\r', b'\t', b'+', b'-', b'.', b'/', b':', 0, 0x80, 0xff,
+];
+
+/// A byte left out and one put in at each place, and the text cut and lengthened.
+fn damaged(program: &str, text: &[u8], tally: &mut Tally) {
+    const TOPIC: &str = "lines, damaged";
+    for at in 0..=text.len() {
+        line(TOPIC, program, &text[..at], tally);
+        for byte in BYTES {
+            let mut longer = text.to_vec();
+            longer.insert(at, byte);
+            line(TOPIC, program, &longer, tally);
+        }
+    }
+    for at in 0..text.len() {
+        let mut shorter = text.to_vec();
+        shorter.remove(at);
+        line(TOPIC, program, &shorter, tally);
+    }
+    for more in [1, 2, 12, 100, 4_096, 1_000_000] {
+        for byte in [b'\n', b'1', b' '] {
+            let mut longer = text.to_vec();
+            longer.resize(text.len() + more, byte);
+            line(TOPIC, program, &longer, tally);
+        }
+    }
+}
+
+/// Seeds at their limits and at each count of digits, also such as are small in 32 bits; other numbers; and lines with each byte
+/// value at each place.
+pub fn lines(program: &str, tally: &mut Tally) {
+    const TOPIC: &str = "lines, edges";
+    let tens = (0..=11).map(|n| 10_u64.pow(n));
+    let around = tens.flat_map(|ten| [ten - 1, ten, 2 * ten + 1]);
+    let wide = [1 << 31, 1 << 32, 1 << 33, 3 << 31, u64::MAX];
+    let beside = wide
+        .into_iter()
+        .flat_map(|n| [n - 1, n, n.saturating_add(1)]);
+    for n in around.chain(beside).chain(SEEDS.map(u64::from)) {
+        let text = format!("{n}\n");
+        line(TOPIC, program, text.as_bytes(), tally);
+        for front in ["0", "00", " ", "+", "-"] {
+            let text = format!("{front}{text}");
+            line(TOPIC, program, text.as_bytes(), tally);
+        }
+    }
+    for text in ["1234567890\n", "2147483647\n", "0\n", "7\n"] {
+        for at in 0..text.len() {
+            for byte in 0..=u8::MAX {
+                let mut bytes = text.as_bytes().to_vec();
+                bytes[at] = byte;
+                line("lines, damaged", program, &bytes, tally);
+            }
+        }
+        damaged(program, text.as_bytes(), tally);
+    }
+    stored(tally);
+}
+
+/// The text that `rt ci` holds the program to is the model's for the line it is given.
+fn stored(tally: &mut Tally) {
+    const TOPIC: &str = "lines, stored";
+    let input = read("crates/test_readings/stdin");
+    let (number, expected) = test_day::printed(input.as_bytes());
+    let stored = read("crates/test_readings/stdout");
+    if stored != expected {
+        stop(TOPIC, input.as_bytes(), &expected, &stored);
+    }
+    tally.count(TOPIC, "stored", number);
+}
+
+/// A random line, and a random one with a byte or two changed.
+pub fn any_line(random: &mut Random, program: &str, tally: &mut Tally) {
+    let digits = random.between(1, 10) as u32;
+    let most = 10_i128.pow(digits) - 1;
+    let number = random.between(0, most.min(2 * Int::from(GREATEST)));
+    let mut text = format!("{number}\n").into_bytes();
+    line("lines", program, &text, tally);
+    for _ in 0..=random.below(2) {
+        let at = random.below(text.len());
+        text[at] = random.pick(&BYTES);
+    }
+    line("lines, damaged", program, &text, tally);
+}
+
+// From seed to ledger
+
+/// The lines of README's section on the test day, which begin with a brace: run by a shell, and held with what they print to the
+/// model. The lines between `<<END` and `END` have a period's seed, purchase and delivered.
+pub fn readme(tally: &mut Tally) {
+    const TOPIC: &str = "test day, README";
+    let page = read("README.md");
+    let mut sections = page
+        .split("\n## ")
+        .filter(|s| s.starts_with("A test day\n"));
+    let blocks = sections.next().unwrap_or("").split("\n\n");
+    let lines = blocks
+        .filter(|b| b.starts_with("    {\n"))
+        .flat_map(str::lines);
+    let commands: Vec<&str> = lines.flat_map(|l| l.strip_prefix("    ")).collect();
+
+    let mut script = Script::empty(TOPIC);
+    for opening in read("docs/day.txt").lines().take(4) {
+        call(&mut script, opening);
+    }
+    let mut seed = Ok(1);
+    let table = commands
+        .iter()
+        .skip_while(|l| !l.ends_with("<<END"))
+        .skip(1);
+    for row in table.take_while(|&&l| l != "END") {
+        let numbers: Vec<Int> = row.split(' ').flat_map(str::parse).collect();
+        let &[given, bought, delivered] = &numbers[..] else {
+            stop(TOPIC, row.as_bytes(), "seed, purchase and delivered", row)
+        };
+        let mut readings = [0; 3_600];
+        printed("the seed that was returned", seed, Ok(given));
+        seed = test_day::fill(given, &mut readings);
+        printed("the proposal", script.record.propose(), (0, bought));
+        readings.map(|r| script.read(r, 1));
+        printed("the bound", script.record.bounds(&readings), (delivered, 0));
+        script.close(bought, delivered, 0, 1);
+    }
+    let answers = script.answers();
+    let answers = answers.iter().filter(|(_, lines)| !lines.is_empty());
+    let rows: Vec<String> = answers
+        .map(|(_, lines)| format!("    {}", lines.join(" ")))
+        .collect();
+    hold(TOPIC, "README.md", &rows);
+
+    let commands = commands.join("\n");
+    let output = Command::new("sh").args(["-c", &commands]).output();
+    let output = output.unwrap_or_else(|e| panic!("sh: {e}"));
+    let found = String::from_utf8_lossy(&output.stdout);
+    let found: Vec<String> = found.lines().map(|l| format!("    {l}")).collect();
+    if !output.status.success() || found != rows {
+        let (expected, found) = (rows.join("\n"), found.join("\n"));
+        let found = format!("{}\n{found}", output.status);
+        stop(
+            TOPIC,
+            commands.as_bytes(),
+            &format!("success\n{expected}"),
+            &found,
+        );
+    }
+    for _ in rows {
+        tally.count(TOPIC, "answer", 0);
+    }
+}
