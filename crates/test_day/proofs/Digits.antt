@@ -1,6 +1,5 @@
 -- The digits of a seed's line: the tests before the loop of `read_line`, and what the digits passed are read as. Assumes nothing.
 use mathlib.Core.Path.{_≡_, refl, sym, ap, _∙_}
-use mathlib.Core.Logic.{_≢_}
 use mathlib.Core.Bool.{Bool, true, false, not, _&&_, _||_}
 use mathlib.Core.List.{List, [], _∷_}
 use Prim.Native.Nat.{ℕ, zero, suc, _+_, _*_, _-_, _^_, _≤_, _<_}
@@ -51,13 +50,15 @@ module _ (text : List ℕ) where
 
   pub other-length : ltb (length text) 2 || ltb 11 (length text) ≡ true → isLine text ≡ false
   unfolding isLine
-  other-length h = rw (not-true _ (sym (outside 2 11 (length text)) ∙ h))
+  other-length h =
+      let e : leb 2 (length text) && leb (length text) 11 ≡ false = not-true _ (sym (outside 2 11 (length text)) ∙ h) in
+      rw e
 
   module _ (lengths : ltb (length text) 2 || ltb 11 (length text) ≡ false) where
     within : leb 2 (length text) && leb (length text) 11 ≡ true
     within = not-false _ (sym (outside 2 11 (length text)) ∙ lengths)
 
-    two : 2 ≤ length text
+    pub two : 2 ≤ length text
     two = leb-true 2 (length text) (both-true (leb 2 (length text)) (leb (length text) 11) within .0)
 
     eleven : length text ≤ 11
@@ -81,7 +82,7 @@ module _ (text : List ℕ) where
     pub eleven : length text ≤ 11
     pub two : 2 ≤ length text
     -- no zero in front of others
-    pub front : 1 < end → getD text 0 0 ≢ 48
+    pub front : 1 < end → getD text 0 0 ≡ 48 → ⊥
     pub decides : isLine text ≡ every digit (rest end text i)
     pub same : number (digitsOf text) ≡ after (read-as i n) (rest end text i)
     pub small : n < 10 ^ i
@@ -93,7 +94,7 @@ module _ (text : List ℕ) where
       record {
         eleven = eleven lengths;
         two = two lengths;
-        front = λ more. eqb-false (getD text 0 0) 48 (sym (rw (lt-ltb 1 end more) at h));
+        front = λ more. eqb-false (getD text 0 0) 48 (rw (lt-ltb 1 end more) at h);
         decides = by-digits lengths ended ∙ rw h;
         same = refl;
         small = lit< tt;
@@ -107,22 +108,35 @@ module _ (text : List ℕ) where
     split : rest end text i ≡ here ∷ rest end text (i + 1)
     split = next end text i 0 h (omega arith)
 
-    pub stops : digit here ≡ false → isLine text ≡ false
+    pub stops : ltb here 48 || ltb 57 here ≡ true → isLine text ≡ false
     unfolding every
-    stops bad = r .decides ∙ rw (split, bad)
+    stops out =
+        let bad : digit here ≡ false = not-true _ (sym (outside 48 57 here) ∙ out) in
+        r .decides ∙ rw (split, bad)
 
     pub small-enough : n < 1000000000
     small-enough = omega (arith, r .small, pow-le-pow-right {n = 10} (lit< tt) {i = i} {j = 9} (omega (arith, r .eleven)))
 
-    module _ (good : digit here ≡ true) where
+    module _ (inside : ltb here 48 || ltb 57 here ≡ false) where
+      good : digit here ≡ true
+      good = not-false _ (sym (outside 48 57 here) ∙ inside)
+
       pub range : (48 ≤ here) × (here ≤ 57)
       range = digit-le here good
 
       -- the digit makes ten times the number and its own
       goes-on : (j : ℕ) → i ≡ j → Columns.next (read-as j n) here ≡ Number (10 * n + (here - 48))
       unfolding Columns.next
-      goes-on zero e = rw (ne-eqb here 32 (λ blank. omega (arith, range)), good) (ap Number (omega (arith, r .small)))
+      goes-on zero e =
+          let none : n < 10 ^ 0 = rw e at (r .small) in
+          let first : here - 48 ≡ 10 * n + (here - 48) = omega arith in
+          rw (ne-eqb here 32 (λ blank. omega (arith, range)), good) (ap Number first)
       goes-on (suc j) e = rw (good, lt-ltb 0 n (r .some (omega arith) h))
+
+      -- to a number that is not 0 where one more follows
+      grows : (j : ℕ) → i ≡ j → i + 1 < end → 0 < 10 * n + (here - 48)
+      grows zero e l = let first : here ≡ 48 → ⊥ = rw e (r .front (omega arith)) in omega (arith, range)
+      grows (suc j) e l = omega (arith, r .some (omega arith) h)
 
       pub step : Read (10 * n + (here - 48)) (i + 1)
       unfolding every
@@ -132,9 +146,9 @@ module _ (text : List ℕ) where
             two = r .two;
             front = r .front;
             decides = r .decides ∙ rw (split, good);
-            same = r .same ∙ rw (split, goes-on i refl, add-one i);
+            same = r .same ∙ ap (after (read-as i n)) split ∙ ap (λ (f : Field). after f (rest end text (i + 1))) (goes-on i refl ∙ rw (add-one i));
             small = rw (add-one i, pow-succ' 10 i) (omega (arith, r .small, range));
-            some = λ z l. omega arith;
+            some = λ z l. grows i refl l;
           }
 
   pub done : {n i : ℕ} → Read n i → end ≤ i → Seed n ≡ lineOf text
@@ -143,4 +157,6 @@ module _ (text : List ℕ) where
       let none : rest end text i ≡ [] = none-left end text i h in
       let all : isLine text ≡ true = r .decides ∙ rw none in
       let is : number (digitsOf text) ≡ read-as i n = r .same ∙ rw none in
-      rw (all, is)
+      let last : suc (i - 1) ≡ i = omega (arith, r .two) in
+      let made : number (digitsOf text) ≡ Number n = rw (← last) at is in
+      rw (all, made)

@@ -1,17 +1,14 @@
 -- The laws of a test day. Assumes nothing.
-use mathlib.Core.Path.{_≡_, refl, sym, _∙_}
+use mathlib.Core.Path.{_≡_, refl}
 use mathlib.Core.Bool.{true}
-use mathlib.Core.List.{List, _++_}
+use mathlib.Core.List.{_++_}
 use Prim.Native.Nat.{ℕ, zero, suc, _+_, _≤_}
 use native.Mathlib.Omega.{arith}
-use borrow.Author.Tests.{le-leb, ltb-false, not-true}
+use borrow.Author.Tests.{le-leb}
 use lib.ListN.{length, length-append}
-use Rattle.common.specs.Answer.{given}
 use Rattle.common.specs.Lists.{every}
-use Rattle.common.proofs.Answers.{given-clear, given-value}
-use Rattle.common.proofs.Tests.{both-true}
-use Rattle.test_day.specs.Day.{nextSeed, reading, readings, lastSeed, fillCauses, filling, inRange, ReadingsInRange, FillInParts}
-use Rattle.test_day.proofs.Seeds.{last-split, readings-split, last-small, gives, fills}
+use Rattle.test_day.specs.Day.{nextSeed, reading, readings, lastSeed, inRange, ReadingsInRange, FillInParts}
+use Rattle.test_day.proofs.Seeds.{last-split, readings-split, last-small, gives, fills, given-good, given-last}
 
 reading-in-range : (seed : ℕ) → inRange (reading seed) ≡ true
 reading-in-range seed = rw (le-leb 49500 (reading seed) (omega arith), le-leb (reading seed) 50500 (omega arith))
@@ -21,20 +18,10 @@ unfolding readings every
 readings-in-range zero seed = refl
 readings-in-range (suc n) seed = rw (reading-in-range (nextSeed seed)) (readings-in-range n (nextSeed seed))
 
--- what a given seed says of the first one, and which it is
-module _ (seed last n : ℕ) (e : filling seed n ≡ given last) where
-  good : seed ≤ 2147483647
-  unfolding filling
-  good = ltb-false 2147483647 seed (not-true _ (both-true _ true (given-clear (fillCauses seed) (lastSeed n seed) last e) .0))
-
-  last-is : lastSeed n seed ≡ last
-  unfolding filling
-  last-is = given-value (fillCauses seed) (lastSeed n seed) last e
-
 pub fill-in-parts : FillInParts
 fill-in-parts seed last first rest e =
-    let whole : seed ≤ 2147483647 = good seed last (length first) e in
-    let on : lastSeed (length first) seed ≡ last = last-is seed last (length first) e in
+    let whole : seed ≤ 2147483647 = given-good seed (length first) e in
+    let on : lastSeed (length first) seed ≡ last = given-last seed (length first) e in
     let part : last ≤ 2147483647 = rw (← on) (last-small (length first) seed whole) in
     let both : length (first ++ rest) ≡ length first + length rest = length-append first rest in
     record {

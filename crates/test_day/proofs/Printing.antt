@@ -6,23 +6,22 @@ use Prim.Native.Nat.{ℕ, suc, _+_, _*_, _/_, _≤_, _<_, min}
 use native.Mathlib.Nat.{zero-add}
 use native.Mathlib.Numerals.{add-one}
 use native.Mathlib.Omega.{arith}
+use borrow.Author.Tests.{lt-ltb, le-ltb}
 use lib.IntN.{pos}
-use lib.ListN.{length, getD, take, set, length-append, length-take}
+use lib.ListN.{length, getD, take, set, replicate, length-append, length-take, length-replicate}
 use lib.Seq.{take-all, take-suc}
-use Rattle.common.specs.Answer.{Answer, refused, given, numberOf, cause, checked}
+use Rattle.common.specs.Answer.{Answer, refused, given, cause, checked}
 use Rattle.common.specs.Lists.{placed}
 use Rattle.common.proofs.Tests.{by-test}
 use Rattle.common.proofs.Placing.{stays, placed-none, placed-length, placed-behind, stores}
 use Rattle.columns.specs.Line.{numberLine}
 use Rattle.columns.specs.Number.{text}
 use Rattle.columns.proofs.Columns.{text-length}
-use Rattle.test_day.specs.Day.{readings, tooLarge, fillCauses, filling, filled, answerOf}
+use Rattle.test_day.specs.Day.{readings, tooLarge, fillCauses, filling, filled}
 use Rattle.test_day.specs.Page.{isLine, seedOf, pageCauses, lines, printed, lineOf}
-use Rattle.test_day.specs.declared.FillAnswer.{FillAnswer}
-use Rattle.test_day.specs.declared.FillAnswer.the-variants.{Last, TooLarge}
 use Rattle.test_day.specs.declared.SeedLine.{SeedLine}
 use Rattle.test_day.specs.declared.SeedLine.the-variants.{Seed, Malformed}
-use Rattle.test_day.proofs.Seeds.{readings-length, fills}
+use Rattle.test_day.proofs.Seeds.{readings-length, fills, given-good, refused-large}
 
 -- ---- lines
 
@@ -54,6 +53,9 @@ too-short t page h = sym (stays 0 (length t) t page refl (omega arith))
 
 -- ---- the loop of `put_lines`: after i turns the first i lines are on the page
 module _ (rs page : List ℕ) where
+  pub no-room : length page / 10 < length rs → page ≡ placed 0 (flatMap numberLine rs) page
+  no-room h = too-short (flatMap numberLine rs) page (omega (arith, lines-length rs))
+
   pub record Written (now : List ℕ) (i : ℕ) : Type 0 where
     pub room : length rs ≤ length page / 10
     pub within : i ≤ length rs
@@ -66,6 +68,9 @@ module _ (rs page : List ℕ) where
   module _ {now : List ℕ} {i : ℕ} (w : Written now i) where
     pub long : length now ≡ length page
     long = rw (w .is) (placed-length 0 (flatMap numberLine (take i rs)) page)
+
+    pub fits : i < length rs → 10 * i + 10 ≤ length now
+    fits h = omega (arith, long, w .room)
 
     pub step : i < length rs → {last : List ℕ} → last ≡ placed (10 * i) (numberLine (getD rs i 0)) now → Written last (i + 1)
     step h {last} e =
@@ -99,7 +104,7 @@ printed-is text = by (isLine text)
     by false = refl
 
 -- 13 and 21 take ten bytes, and readings 36,000
-pub printed-most : (text : List ℕ) → length (printed text) ≤ 36000
+printed-most : (text : List ℕ) → length (printed text) ≤ 36000
 unfolding printedFor
 printed-most text = rw (printed-is text) (by (lineOf text))
   where
@@ -108,14 +113,39 @@ printed-most text = rw (printed-is text) (by (lineOf text))
     by (Seed n) = by-test (λ (a : Answer (List ℕ)). length (lines a) ≤ 36000) (tooLarge n) (refused 21) (given (readings 3600 n))
         (λ t. omega (arith, line-length 21)) (λ f. omega (arith, lines-length (readings 3600 n), readings-length 3600 n))
 
+pub printed-fits : (text page : List ℕ) {last : List ℕ} {count : ℕ} → count ≡ length (printed text) → last ≡ placed 0 (printed text) page → length page ≡ 36000
+    → count ≤ length last
+printed-fits text page counted is long = rw (counted, is, placed-length 0 (printed text) page, long) (printed-most text)
+
+-- a seed is refused or has its readings
+by-seed : (text : List ℕ) {n : ℕ} → lineOf text ≡ Seed n → printed text ≡ lines (checked (fillCauses n) (readings 3600 n))
+unfolding printedFor
+by-seed text said = printed-is text ∙ ap printedFor said
+
 pub record Prints (text page last : List ℕ) (count : ℕ) : Type 0 where
   pub counted : count ≡ length (printed text)
   pub is : last ≡ placed 0 (printed text) page
 
-module _ {text page last : List ℕ} where
+module _ (text page : List ℕ) {last : List ℕ} where
   refusal : (n : ℕ) → printed text ≡ numberLine n → last ≡ placed 0 (numberLine n) page → Prints text page last 10
   refusal n e is = record { counted = rw (e, line-length n); is = rw e is }
 
   pub prints-13 : lineOf text ≡ Malformed → last ≡ placed 0 (numberLine 13) page → Prints text page last 10
   unfolding printedFor
-  prints-13 e = refusal 13 (printed-is text ∙ ap printedFor e)
+  prints-13 said = refusal 13 (printed-is text ∙ ap printedFor said)
+
+  -- `fill` is handed the smaller of the seed and the greatest u32
+  module _ {n seed : ℕ} (said : lineOf text ≡ Seed n) (handed : seed ≡ min n 4294967295) (k : ℕ) where
+    pub prints-21 : filling seed k ≡ refused 21 → last ≡ placed 0 (numberLine 21) page → Prints text page last 10
+    prints-21 e =
+        let large : 2147483647 < seed = refused-large seed k e in
+        refusal 21 (by-seed text said ∙ rw (lt-ltb 2147483647 n (omega arith)))
+
+    pub prints-readings : {l : ℕ} → filling seed k ≡ given l → {rs : List ℕ} → rs ≡ filled seed (replicate 3600 0)
+        → last ≡ placed 0 (flatMap numberLine rs) page → Prints text page last 36000
+    prints-readings e {rs} rs-is is =
+        let good : seed ≤ 2147483647 = given-good seed k e in
+        let same : seed ≡ n = omega arith in
+        let made : rs ≡ readings 3600 n = rs-is ∙ fills seed good (replicate 3600 0) ∙ rw (length-replicate {A = ℕ} 3600 0, same) in
+        let all : printed text ≡ flatMap numberLine rs = by-seed text said ∙ rw (le-ltb 2147483647 n (omega arith), made) in
+        record { counted = rw (all, lines-length rs, made, readings-length 3600 n); is = rw all is }

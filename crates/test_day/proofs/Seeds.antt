@@ -1,15 +1,19 @@
 -- Seeds and readings step by step, and the loop of `fill`. Assumes nothing.
 use mathlib.Core.Path.{_≡_, refl, sym, ap, _∙_}
+use mathlib.Core.Bool.{true}
 use mathlib.Core.List.{List, [], _∷_, _++_}
 use Prim.Native.Nat.{ℕ, zero, suc, _+_, _≤_, _<_}
+use native.Mathlib.Decide.{decLe}
 use native.Mathlib.Nat.{suc-add, zero-add}
 use native.Mathlib.Numerals.{add-one}
 use native.Mathlib.Omega.{arith}
-use borrow.Author.Tests.{lt-ltb, le-ltb}
+use borrow.Author.Tests.{lt-ltb, le-ltb, ltb-false, not-true}
 use lib.ListN.{length, take, set, length-set}
 use lib.Seq.{take-all, take-suc-set}
 use Rattle.common.specs.Answer.{refused, given}
-use Rattle.test_day.specs.Day.{nextSeed, reading, readings, lastSeed, filling, filled}
+use Rattle.common.proofs.Answers.{given-clear, given-value}
+use Rattle.common.proofs.Tests.{both-true}
+use Rattle.test_day.specs.Day.{nextSeed, reading, readings, lastSeed, fillCauses, filling, filled}
 
 -- ---- the last step
 
@@ -66,6 +70,23 @@ module _ (seed : ℕ) where
     pub fills : (buffer : List ℕ) → filled seed buffer ≡ readings (length buffer) seed
     unfolding filled
     fills buffer = rw (le-ltb 2147483647 seed good)
+
+  -- what an answer says of the seed
+  module _ (n : ℕ) where
+    pub given-good : {last : ℕ} → filling seed n ≡ given last → seed ≤ 2147483647
+    unfolding filling
+    given-good e = ltb-false 2147483647 seed (not-true _ (both-true _ true (given-clear (fillCauses seed) (lastSeed n seed) _ e) .0))
+
+    pub given-last : {last : ℕ} → filling seed n ≡ given last → lastSeed n seed ≡ last
+    unfolding filling
+    given-last e = given-value (fillCauses seed) (lastSeed n seed) _ e
+
+    pub refused-large : filling seed n ≡ refused 21 → 2147483647 < seed
+    refused-large e = by (decLe seed 2147483647)
+      where
+        by : Dec (seed ≤ 2147483647) → 2147483647 < seed
+        by (yes h) = let g : given (lastSeed n seed) ≡ refused 21 = sym (gives h n) ∙ e in let o : _≡_ {A = ℕ} 0 1 = cc in absurd (omega arith)
+        by (no h) = omega arith
 
   -- ---- the loop: after i turns the buffer begins with i readings
   module _ (before : List ℕ) where
