@@ -36,7 +36,7 @@ const RAND: [Int; 8] = [16_838, 5_758, 10_113, 17_515, 31_051, 5_627, 23_010, 7_
 /// The seed before `new`: the step's factor is odd, and this is what undoes it.
 fn seed_before(new: Int) -> u32 {
     const MODULUS: Int = 1 << 31;
-    let mut factor = 1;
+    let mut factor: Int = 1;
     for _ in 0..5 {
         factor = (factor * (2 - 1_103_515_245 * factor)).rem_euclid(MODULUS);
     }
