@@ -413,7 +413,7 @@ fn break_numbers(random: &mut Random, numbers: &mut ReportNumbers) {
 const ROOMS: [usize; 9] = [0, 1, 61, 487, 488, 489, 500, 599, BEHIND];
 
 /// Bytes that stand for others in a damaged text.
-const BYTES: [u8; 16] = [
+pub const BYTES: [u8; 16] = [
     b' ', b'0', b'1', b'2', b'9', b'\n', b'\r', b'\t', b'+', b'-', b'.', b'/', b':', 0, 0x80, 0xff,
 ];
 

@@ -3,6 +3,7 @@
 
 use crate::day::{call, hold, read};
 use crate::host;
+use crate::host_cases::BYTES;
 use crate::model::Int;
 use crate::random::Random;
 use crate::tally::{printed, stop, Tally};
@@ -29,9 +30,6 @@ const SEEDS: [u32; 12] = [
 ];
 
 // From C
-
-/// The step is that of the example in the C standard's section on rand, which gives these from seed 1 before the remainder by 1,001.
-const RAND: [Int; 8] = [16_838, 5_758, 10_113, 17_515, 31_051, 5_627, 23_010, 7_419];
 
 /// The seed before `new`: the step's factor is odd, and this is what undoes it.
 fn seed_before(new: Int) -> u32 {
@@ -63,18 +61,24 @@ fn in_parts(topic: &'static str, seed: u32, count: usize, first: usize, tally: &
     tally.read(&whole.1);
 }
 
+/// The step is that of the C standard's example of rand: from seed 1 its numbers are these, and a reading is 49,500 plus the
+/// remainder of one by 1,001.
+fn known() {
+    const RAND: [Int; 8] = [16_838, 5_758, 10_113, 17_515, 31_051, 5_627, 23_010, 7_419];
+    let mut seed = 1;
+    for number in RAND {
+        seed = test_day::next_seed(seed);
+        printed("rand of the C standard", number, seed / 65_536);
+    }
+    let mut readings = [0; 8];
+    printed("the last seed", Ok(seed), test_day::fill(1, &mut readings));
+    let expected = RAND.map(|number| (49_500 + number % 1_001) as u16);
+    printed("the readings of seed 1", expected, readings);
+}
+
 pub fn edges(tally: &mut Tally) {
     const TOPIC: &str = "test day, edges";
-    let mut readings = [0; 8];
-    let last = test_day::fill(1, &mut readings);
-    let known = RAND.map(|n| (49_500 + n % 1_001) as u16);
-    printed("the readings of seed 1", known, readings);
-    let mut new = 1;
-    for n in RAND {
-        new = test_day::next_seed(new);
-        printed("rand of the C standard", n, new / 65_536);
-    }
-    printed("the last seed of seed 1", Ok(new), last);
+    known();
     for seed in SEEDS {
         for count in 0..=5 {
             for first in 0..=count {
@@ -148,11 +152,6 @@ fn line(topic: &'static str, program: &str, text: &[u8], tally: &mut Tally) {
     }
     tally.count(topic, "line", number);
 }
-
-/// Bytes that stand for others in a damaged line.
-const BYTES: [u8; 16] = [
-    b' ', b'0', b'1', b'2', b'9', b'\n', b'\r', b'\t', b'+', b'-', b'.', b'/', b':', 0, 0x80, 0xff,
-];
 
 /// A byte left out and one put in at each place, and the text cut and lengthened.
 fn damaged(program: &str, text: &[u8], tally: &mut Tally) {
@@ -238,65 +237,65 @@ pub fn any_line(random: &mut Random, program: &str, tally: &mut Tally) {
 
 // From seed to ledger
 
-/// The lines of README's section on the test day, which begin with a brace: run by a shell, and held with what they print to the
-/// model. The lines between `<<END` and `END` have a period's seed, purchase and delivered.
-pub fn readme(tally: &mut Tally) {
-    const TOPIC: &str = "test day, README";
-    let page = read("README.md");
-    let mut sections = page
-        .split("\n## ")
-        .filter(|s| s.starts_with("A test day\n"));
-    let blocks = sections.next().unwrap_or("").split("\n\n");
-    let lines = blocks
-        .filter(|b| b.starts_with("    {\n"))
-        .flat_map(str::lines);
-    let commands: Vec<&str> = lines.flat_map(|l| l.strip_prefix("    ")).collect();
+const README: &str = "test day, README";
 
-    let mut script = Script::empty(TOPIC);
+/// The lines of a shell in README's section on the test day: the paragraph that begins with a brace.
+fn shell_lines() -> Vec<String> {
+    let page = read("README.md");
+    let section = page.split("\n## ").find(|s| s.starts_with("A test day\n"));
+    let mut paragraphs = section.unwrap_or("").split("\n\n");
+    let lines = paragraphs.find(|p| p.starts_with("    {\n")).unwrap_or("");
+    lines
+        .lines()
+        .map(|l| l.strip_prefix("    ").unwrap_or(l).to_string())
+        .collect()
+}
+
+/// What the model answers where the rows, between `<<END` and `END`, are periods: their seed, purchase and delivered. Each seed is
+/// the one that the period before returned, each purchase the proposal, and delivered is the bound.
+fn from_seed_to_ledger(lines: &[String]) -> Vec<String> {
+    let mut script = Script::empty(README);
     for opening in read("docs/day.txt").lines().take(4) {
         call(&mut script, opening);
     }
     let mut seed = Ok(1);
-    let table = commands
-        .iter()
-        .skip_while(|l| !l.ends_with("<<END"))
-        .skip(1);
-    for row in table.take_while(|&&l| l != "END") {
+    let rows = lines.iter().skip_while(|l| !l.ends_with("<<END")).skip(1);
+    for row in rows.take_while(|&l| l != "END") {
         let numbers: Vec<Int> = row.split(' ').flat_map(str::parse).collect();
         let &[given, bought, delivered] = &numbers[..] else {
-            stop(TOPIC, row.as_bytes(), "seed, purchase and delivered", row)
+            stop(README, row.as_bytes(), "seed, purchase and delivered", row)
         };
         let mut readings = [0; 3_600];
         printed("the seed that was returned", seed, Ok(given));
         seed = test_day::fill(given, &mut readings);
         printed("the proposal", script.record.propose(), (0, bought));
-        readings.map(|r| script.read(r, 1));
         printed("the bound", script.record.bounds(&readings), (delivered, 0));
+        readings.map(|r| script.read(r, 1));
         script.close(bought, delivered, 0, 1);
     }
-    let answers = script.answers();
-    let answers = answers.iter().filter(|(_, lines)| !lines.is_empty());
-    let rows: Vec<String> = answers
-        .map(|(_, lines)| format!("    {}", lines.join(" ")))
-        .collect();
-    hold(TOPIC, "README.md", &rows);
+    let answers = script.answers().into_iter().map(|(_, lines)| lines);
+    answers
+        .filter(|lines| !lines.is_empty())
+        .map(|lines| lines.join(" "))
+        .collect()
+}
 
-    let commands = commands.join("\n");
+/// README's lines of a shell print what the model answers, and README shows that.
+pub fn readme(tally: &mut Tally) {
+    let lines = shell_lines();
+    let rows = from_seed_to_ledger(&lines);
+    let shown: Vec<String> = rows.iter().map(|row| format!("    {row}")).collect();
+    hold(README, "README.md", &shown);
+    let commands = lines.join("\n");
     let output = Command::new("sh").args(["-c", &commands]).output();
     let output = output.unwrap_or_else(|e| panic!("sh: {e}"));
     let found = String::from_utf8_lossy(&output.stdout);
-    let found: Vec<String> = found.lines().map(|l| format!("    {l}")).collect();
-    if !output.status.success() || found != rows {
-        let (expected, found) = (rows.join("\n"), found.join("\n"));
+    let expected = rows.join("\n") + "\n";
+    if !output.status.success() || found != expected {
         let found = format!("{}\n{found}", output.status);
-        stop(
-            TOPIC,
-            commands.as_bytes(),
-            &format!("success\n{expected}"),
-            &found,
-        );
+        stop(README, commands.as_bytes(), &expected, &found);
     }
     for _ in rows {
-        tally.count(TOPIC, "answer", 0);
+        tally.count(README, "answer", 0);
     }
 }

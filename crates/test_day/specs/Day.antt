@@ -69,4 +69,5 @@ pub record SameInParts (seed last : ℕ) (first rest : List ℕ) : Type 0 where
 
 -- for every split
 abbrev pub FillInParts : Type 0
-FillInParts = (seed last : ℕ) (first rest : List ℕ) → filling seed (length first) ≡ given last → SameInParts seed last first rest
+FillInParts = (seed last : ℕ) (first rest : List ℕ) → filling seed (length first) ≡ given last
+    → SameInParts seed last first rest

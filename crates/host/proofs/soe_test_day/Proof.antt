@@ -1,13 +1,10 @@
 -- `host::soe_test_day` meets its contract. Assumes nothing.
-use mathlib.Core.Path.{_≡_, sym, ap, _∙_}
+use mathlib.Core.Path.{_≡_, ap, _∙_}
 use native.Mathlib.Omega.{arith}
 use borrow.Author.Needs.{needs, sfits-of}
-use denote.Ref.{now}
 use lib.IntN.{pos}
-use lib.ListN.{length}
 use mir.Facts.{toZ-ofZ}
 use Rattle.signed.proofs.Signs.{nearest-sub}
-use Rattle.test_day.specs.Day.{filling, answerOf}
 use Rattle.host.proofs.soe_test_day.Statement.{statement}
 use Rattle.host.proofs.soe_test_day.Tie as tie
 
@@ -51,15 +48,9 @@ returns-2 : tie.Need-returns-2
 returns-2 c =
     let t = c .before .before in
     let f = t .before .before .before .before in
-    let last = t .answer .given .0 .0 in (
-      rw (
-        toZ-ofZ {z = c .difference .result} (sfits-of (c .difference .ok)),
-        c .difference .ensures,
-        nearest-sub last 0 (omega arith) (omega arith),
-        ← f .fill .ensures .0,
-        t .answer .given .1,
-      )
-          (ap pos (omega arith)),
+    let last = t .answer .given .0 .0 in
+    let is : c .difference .result ≡ pos last = c .difference .ensures ∙ nearest-sub last 0 (omega arith) (omega arith) ∙ ap pos (omega arith) in (
+      rw (toZ-ofZ {z = c .difference .result} (sfits-of (c .difference .ok)), is, ← f .fill .ensures .0, t .answer .given .1),
       f .fill .ensures .1,
     )
 
