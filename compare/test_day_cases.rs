@@ -223,9 +223,13 @@ fn stored(tally: &mut Tally) {
 
 /// A random line, and a random one with a byte or two changed.
 pub fn any_line(random: &mut Random, program: &str, tally: &mut Tally) {
-    let digits = random.between(1, 10) as u32;
-    let most = 10_i128.pow(digits) - 1;
-    let number = random.between(0, most.min(2 * Int::from(GREATEST)));
+    let number = match random.below(3) {
+        0 => random.near(&[GREATEST.into(), 2 * Int::from(GREATEST)]),
+        _ => {
+            let digits = random.between(1, 10) as u32;
+            random.between(0, Int::pow(10, digits) - 1)
+        }
+    };
     let mut text = format!("{number}\n").into_bytes();
     line("lines", program, &text, tally);
     for _ in 0..=random.below(2) {
@@ -270,7 +274,9 @@ fn from_seed_to_ledger(lines: &[String]) -> Vec<String> {
         seed = test_day::fill(given, &mut readings);
         printed("the proposal", script.record.propose(), (0, bought));
         printed("the bound", script.record.bounds(&readings), (delivered, 0));
-        readings.map(|r| script.read(r, 1));
+        for reading in readings {
+            script.read(reading, 1);
+        }
         script.close(bought, delivered, 0, 1);
     }
     let answers = script.answers().into_iter().map(|(_, lines)| lines);
