@@ -18,7 +18,7 @@ nextSeed old = (1103515245 * old + 12345) % 2147483648
 
 -- the reading is 49,500 plus the remainder of (new seed divided by 65,536, rounded down) by 1,001
 abbrev pub reading : ℕ → ℕ
-reading new = 49500 + new / 65536 % 1001
+reading new = 49500 + (new / 65536) % 1001
 
 -- the readings of n steps
 unfoldable pub readings : ℕ → ℕ → List ℕ

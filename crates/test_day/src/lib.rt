@@ -31,7 +31,7 @@ fn next_seed(old: u32) -> u32
 fn reading_of(new: u32) -> u16
     ensures { λ r. ⌜ r ≡ reading new ⌝ }
 {
-    (49_500 + new / 65_536 % 1_001) as u16
+    (49_500 + (new / 65_536) % 1_001) as u16
 }
 
 // Fills the buffer with readings, a step for each, and gives the last seed. A seed too large leaves the buffer as it is.
