@@ -142,7 +142,7 @@ int64_t soe_payment(uint32_t price, uint32_t adjustment, uint32_t k, uint32_t f,
  * one. To fill a first part and then, from the returned seed, the rest is to fill the whole.
  *
  * Refusal, the whole buffer being as it was:
- *   -21  the seed is above 2,147,483,647 */
+ *   -21  the seed is above 2,147,483,647; so is a returned -21 where it is handed in as the next seed */
 int64_t soe_test_day(uint32_t seed, uint16_t *buffer, size_t count);
 
 #ifdef __cplusplus
