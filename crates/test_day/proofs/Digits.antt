@@ -1,6 +1,6 @@
 -- The digits of a seed's line: the tests before the loop of `read_line`, and what the digits passed are read as. Assumes nothing.
 use mathlib.Core.Path.{_≡_, refl, sym, ap, _∙_}
-use mathlib.Core.Bool.{Bool, true, false, not, _&&_, _||_}
+use mathlib.Core.Bool.{Bool, true, false, not, _&&_, _||_, and-true, and-false}
 use mathlib.Core.List.{List, [], _∷_}
 use Prim.Native.Nat.{ℕ, zero, suc, _+_, _*_, _-_, _^_, _≤_, _<_}
 use native.Mathlib.Nat.{pow-succ', pow-le-pow-right}
@@ -66,15 +66,15 @@ module _ (text : List ℕ) where
 
     pub no-line-feed : (getD text end 0 ≡ 10 → ⊥) → isLine text ≡ false
     unfolding isLine
-    no-line-feed h = rw (within, ne-eqb (getD text end 0) 10 h)
+    no-line-feed h = rw (within, ne-eqb (getD text end 0) 10 h) (and-false (every digit (digitsOf text) && (eqb (length text) 2 || not (eqb (getD text 0 0) 48))))
 
     module _ (ended : getD text end 0 ≡ 10) where
-      by-digits : isLine text ≡ not (ltb 1 end && eqb (getD text 0 0) 48) && every digit (digitsOf text)
+      by-digits : isLine text ≡ every digit (digitsOf text) && not (ltb 1 end && eqb (getD text 0 0) 48)
       unfolding isLine
-      by-digits = rw (within, eq-eqb (getD text end 0) 10 ended, one-digit (length text) two (eqb (getD text 0 0) 48))
+      by-digits = rw (within, eq-eqb (getD text end 0) 10 ended, one-digit (length text) two (eqb (getD text 0 0) 48)) (and-true _)
 
       pub zero-in-front : ltb 1 end && eqb (getD text 0 0) 48 ≡ true → isLine text ≡ false
-      zero-in-front h = by-digits ∙ rw h
+      zero-in-front h = by-digits ∙ rw h (and-false (every digit (digitsOf text)))
 
   -- ---- the loop: the first i digits make n
 
@@ -95,7 +95,7 @@ module _ (text : List ℕ) where
         eleven = eleven lengths;
         two = two lengths;
         front = λ more. eqb-false (getD text 0 0) 48 (rw (lt-ltb 1 end more) at h);
-        decides = by-digits lengths ended ∙ rw h;
+        decides = by-digits lengths ended ∙ rw h (and-true (every digit (digitsOf text)));
         same = refl;
         small = lit< tt;
         some = λ z l. absurd (omega arith);

@@ -23,9 +23,9 @@ digitsOf text = take (length text - 1) text
 unfoldable pub isLine : List ℕ → Bool
 isLine text =
     leb 2 (length text) && leb (length text) 11
-    && eqb (getD text (length text - 1) 0) 10
-    && (eqb (length text) 2 || not (eqb (getD text 0 0) 48))
     && every digit (digitsOf text)
+    && (eqb (length text) 2 || not (eqb (getD text 0 0) 48))
+    && eqb (getD text (length text - 1) 0) 10
 
 -- the number that the digits are
 abbrev pub seedOf : List ℕ → ℕ
