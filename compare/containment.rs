@@ -1,8 +1,8 @@
 //! The table for the containment curve (02, No. 4) where it is written down: what the program containment_table prints, the text
 //! stored of it and the constant in the code, each held to the model's table.
 
-use crate::day::read;
 use crate::model;
+use crate::readme::read;
 use crate::tally::{stop, Tally};
 use std::process::Command;
 

@@ -1,9 +1,9 @@
 //! The day of docs/day.txt, which README.md shows: given to the model line by line, compared, and README held to it.
 
 use crate::model::{Curve, Direction, Terms};
+use crate::readme::{hold, read};
 use crate::tally::{stop, Tally};
 use crate::trace::{Runs, Script};
-use std::fs;
 
 const TOPIC: &str = "day";
 
@@ -19,10 +19,6 @@ pub fn compare(runs: &mut Runs, tally: &mut Tally) {
     let rows = rows(&script);
     runs.alone(script, tally);
     hold(TOPIC, "README.md", &rows);
-}
-
-pub fn read(path: &str) -> String {
-    fs::read_to_string(path).unwrap_or_else(|e| panic!("{path}: {e}"))
 }
 
 /// Gives the model a line, one of those that a day has.
@@ -72,18 +68,4 @@ fn rows(script: &Script) -> Vec<String> {
         rows.extend(answers.iter().skip(1).map(|answer| row("", answer)));
     }
     rows
-}
-
-/// The paragraph of a page that has the first row has all of them and nothing else.
-pub fn hold(topic: &str, page: &str, rows: &[String]) {
-    let text = read(page);
-    let mut paragraphs = text.split("\n\n").map(str::lines);
-    let block = paragraphs.find(|lines| lines.clone().any(|line| line == rows[0]));
-    let mut found = block.unwrap_or("".lines());
-    for row in rows.iter().map(String::as_str).chain(["(no line)"]) {
-        let line = found.next().unwrap_or("(no line)");
-        if line != row {
-            stop(topic, format!("{page}\n").as_bytes(), row, line);
-        }
-    }
 }

@@ -1,7 +1,7 @@
 //! By how much bounds fall by the watt rule (02, No. 5), on the readings of docs/readings.txt: the table of docs/WATTS.md.
 
-use crate::day::{hold, read};
 use crate::model::{self, containment, regulation, Direction, Fraction, Int};
+use crate::readme::{hold, read};
 use crate::tally::{stop, Tally};
 use crate::trace::{Runs, Script};
 

@@ -78,8 +78,13 @@ fn show(number: i64, before: &[u8], output: &[u8]) -> String {
     format!("{number}, the bytes past 488 {past}, the output\n{table}")
 }
 
-/// Compares the number, the output with the bytes past 488, and that the input is as it was.
-pub fn report(topic: &'static str, input: &[u8], room: usize, tally: &mut Tally) {
+/// Compares the number, the output with the bytes past 488, and that the input is as it was. Gives the number and the output.
+pub fn report(
+    topic: &'static str,
+    input: &[u8],
+    room: usize,
+    tally: &mut Tally,
+) -> (i64, Vec<u8>) {
     assert!(room <= BEHIND);
     let before: Vec<u8> = (0..BEHIND).map(|i| (i * 7 + 1) as u8).collect();
     let mut expected = before.clone();
@@ -105,6 +110,7 @@ pub fn report(topic: &'static str, input: &[u8], room: usize, tally: &mut Tally)
         );
     }
     tally.count(topic, "soe_report", -number);
+    (found, output)
 }
 
 /// The quantities fit u32, the limits i64.

@@ -305,14 +305,14 @@ pub fn quantity_edges(tally: &mut Tally) {
 }
 
 /// The 24 numbers of a report's input.
-struct ReportNumbers {
-    first: [Int; 4],
-    bounds: [Int; 8],
-    reported: [Int; 8],
+pub struct ReportNumbers {
+    pub first: [Int; 4],
+    pub bounds: [Int; 8],
+    pub reported: [Int; 8],
 }
 
 impl ReportNumbers {
-    fn text(&self) -> Vec<u8> {
+    pub fn text(&self) -> Vec<u8> {
         let mut text: String = self.first.iter().map(|n| format!("{n:9}")).collect();
         text += "\n";
         for i in 0..8 {

@@ -18,6 +18,8 @@ mod papers;
 mod payment;
 mod payment_cases;
 mod random;
+mod readme;
+mod stacking;
 mod tally;
 mod test_day;
 mod test_day_cases;
@@ -70,7 +72,9 @@ fn compare(
     day::compare(runs, tally);
     gain::compare(runs, tally);
     test_day_cases::readme(tally);
+    stacking::readme(tally);
     host_cases::damaged_reports(tally);
+    stacking::edges(tally);
     host_cases::quantity_edges(tally);
     payment_cases::edges(random, tally);
     test_day_cases::edges(tally);
@@ -89,6 +93,7 @@ fn compare(
         host_cases::quantity(random, 1_000, tally);
         host_cases::reports(random, 1_000, tally);
         host_cases::damaged_random_report(random, tally);
+        stacking::any(random, 200, tally);
         payment_cases::any(random, 500, tally);
         test_day_cases::any(random, 50, tally);
         test_day_cases::any_line(random, test_readings, tally);
@@ -126,6 +131,9 @@ fn compare(
     println!("payments by the side of 0 on which the exact sum lies, and how many lie where above the whole number below");
     tally.print_amounts();
     payment_cases::all_reached(tally);
+    println!("starts of two contracts as one, beside the sum of the two separate starts");
+    tally.print_stacked();
+    stacking::all_reached(tally);
     println!("readings of test days");
     tally.print_readings();
     test_day_cases::all_reached(tally);

@@ -12,6 +12,7 @@ pub struct Tally {
     falls: BTreeMap<(usize, &'static str), BTreeMap<Int, u64>>,
     amounts: BTreeMap<&'static str, BTreeMap<&'static str, u64>>,
     readings: BTreeMap<u16, u64>,
+    stacked: BTreeMap<usize, BTreeMap<&'static str, u64>>,
 }
 
 impl Tally {
@@ -68,6 +69,18 @@ impl Tally {
         self.readings.keys()
     }
 
+    /// A start of a combined contract was of this kind beside the two separate ones.
+    pub fn stack(&mut self, start: usize, kind: &'static str) {
+        let kinds = self.stacked.entry(start).or_default();
+        *kinds.entry(kind).or_default() += 1;
+    }
+
+    /// The kinds of which that start was, in order.
+    pub fn stacked(&self, start: usize) -> Vec<&'static str> {
+        let kinds = self.stacked.get(&start);
+        kinds.map_or(Vec::new(), |k| k.keys().copied().collect())
+    }
+
     pub fn total(&self) -> u64 {
         self.counts.values().flat_map(|n| n.values()).sum()
     }
@@ -91,6 +104,13 @@ impl Tally {
     pub fn print_amounts(&self) {
         for (side, amounts) in &self.amounts {
             println!("{side:16} {}", each(amounts));
+        }
+    }
+
+    /// A line for each start: how many were of which kind.
+    pub fn print_stacked(&self) {
+        for (start, kinds) in &self.stacked {
+            println!("start {start:10} {}", each(kinds));
         }
     }
 

@@ -1,11 +1,12 @@
 //! Cases for the test day: seeds and lengths at their limits, splits, readings at both ends, lines damaged at every byte, and the
 //! day from seed to ledger that README.md shows.
 
-use crate::day::{call, hold, read};
+use crate::day::call;
 use crate::host;
 use crate::host_cases::BYTES;
 use crate::model::Int;
 use crate::random::Random;
+use crate::readme::{self, read};
 use crate::tally::{printed, stop, Tally};
 use crate::test_day;
 use crate::trace::Script;
@@ -243,28 +244,15 @@ pub fn any_line(random: &mut Random, program: &str, tally: &mut Tally) {
 
 const README: &str = "test day, README";
 
-/// The lines of a shell in README's section on the test day: the paragraph that begins with a brace.
-fn shell_lines() -> Vec<String> {
-    let page = read("README.md");
-    let section = page.split("\n## ").find(|s| s.starts_with("A test day\n"));
-    let mut paragraphs = section.unwrap_or("").split("\n\n");
-    let lines = paragraphs.find(|p| p.starts_with("    {\n")).unwrap_or("");
-    lines
-        .lines()
-        .map(|l| l.strip_prefix("    ").unwrap_or(l).to_string())
-        .collect()
-}
-
-/// What the model answers where the rows, between `<<END` and `END`, are periods: their seed, purchase and delivered. Each seed is
-/// the one that the period before returned, each purchase the proposal, and delivered is the bound.
+/// What the model answers where the rows that the lines hand on are periods: their seed, purchase and delivered. Each seed is the
+/// one that the period before returned, each purchase the proposal, and delivered is the bound.
 fn from_seed_to_ledger(lines: &[String]) -> Vec<String> {
     let mut script = Script::empty(README);
     for opening in read("docs/day.txt").lines().take(4) {
         call(&mut script, opening);
     }
     let mut seed = Ok(1);
-    let rows = lines.iter().skip_while(|l| !l.ends_with("<<END")).skip(1);
-    for row in rows.take_while(|&l| l != "END") {
+    for row in readme::handed_on(lines) {
         let numbers: Vec<Int> = row.split(' ').flat_map(str::parse).collect();
         let &[given, bought, delivered] = &numbers[..] else {
             stop(README, row.as_bytes(), "seed, purchase and delivered", row)
@@ -288,19 +276,9 @@ fn from_seed_to_ledger(lines: &[String]) -> Vec<String> {
 
 /// README's lines of a shell print what the model answers, and README shows that.
 pub fn readme(tally: &mut Tally) {
-    let lines = shell_lines();
+    let lines = readme::shell_lines("A test day", "{\n");
     let rows = from_seed_to_ledger(&lines);
-    let shown: Vec<String> = rows.iter().map(|row| format!("    {row}")).collect();
-    hold(README, "README.md", &shown);
-    let commands = lines.join("\n");
-    let output = Command::new("sh").args(["-c", &commands]).output();
-    let output = output.unwrap_or_else(|e| panic!("sh: {e}"));
-    let found = String::from_utf8_lossy(&output.stdout);
-    let expected = rows.join("\n") + "\n";
-    if !output.status.success() || found != expected {
-        let found = format!("{}\n{found}", output.status);
-        stop(README, commands.as_bytes(), &expected, &found);
-    }
+    readme::run(README, &lines, &rows);
     for _ in rows {
         tally.count(README, "answer", 0);
     }

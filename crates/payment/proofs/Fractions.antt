@@ -1,24 +1,15 @@
 -- Exact fractions by natural numbers: x is (a − b) / d. Assumes nothing.
-use mathlib.Core.Path.{_≡_, refl, ap}
+use mathlib.Core.Path.{_≡_, ap}
 use mathlib.Core.List.{List, [], _∷_, map}
-use Prim.Native.Nat.{ℕ, suc, _+_, _*_, _<_}
+use Prim.Native.Nat.{ℕ, _+_, _*_, _<_}
 use native.Mathlib.Nat.{mul-pos}
 use native.Mathlib.Omega.{arith}
-use lib.IntN.{ℤ, pos, negsuc, negℤ, _*ℤ_}
+use lib.IntN.{ℤ, pos, _*ℤ_}
 use Rattle.common.specs.Lists.{sum}
 use Rattle.signed.specs.Sign.{above, below}
 use Rattle.signed.proofs.Whole as whole
+use Rattle.signed.proofs.Whole.{above-times, below-times}
 use Rattle.payment.specs.Exact.{Exact, ratio, plus, minus, times, total}
-
--- ---- a natural number times a whole one
-
-pub above-times : (n : ℕ) (z : ℤ) → above (pos n *ℤ z) ≡ n * above z
-above-times n (pos m) = refl
-above-times n (negsuc m) = omega (arith, whole.neg (pos (n * suc m)), whole.one-sided (negℤ (pos (n * suc m))))
-
-pub below-times : (n : ℕ) (z : ℤ) → below (pos n *ℤ z) ≡ n * below z
-below-times n (pos m) = omega arith
-below-times n (negsuc m) = omega (arith, whole.neg (pos (n * suc m)), whole.one-sided (negℤ (pos (n * suc m))))
 
 -- over a common denominator: s − t is the sum of m − n, times e, and m' − n', times c
 joined : (c e d m n m' n' s t a b a' b' : ℕ) → s + (e * n + c * n') ≡ e * m + c * m' + t → m * d + b * c ≡ a * c + n * d → m' * d + b' * e ≡ a' * e + n' * d

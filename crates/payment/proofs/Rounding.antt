@@ -9,9 +9,10 @@ use lib.Signed.{_≤ℤ_}
 use Rattle.signed.specs.Sign.{above, below, nearest}
 use Rattle.signed.proofs.Signs.{sub-pos, sub-neg, nearest-sub}
 use Rattle.signed.proofs.Whole as whole
+use Rattle.signed.proofs.Whole.{above-times, below-times}
 use Rattle.payment.specs.Exact.{Exact, ratio, plus, quotient, rounded, HalfUp}
 use Rattle.payment.specs.Payment.{partsLess}
-use Rattle.payment.proofs.Fractions.{above-times, below-times, Is, scaled, told, half-is, plus-is}
+use Rattle.payment.proofs.Fractions.{Is, scaled, told, half-is, plus-is}
 
 -- ---- a fraction rounded down
 

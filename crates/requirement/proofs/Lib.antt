@@ -4,3 +4,5 @@ pub mod Need
 pub mod Passing
 pub mod Filling
 pub mod Matching
+pub mod Stacking
+pub mod Multiples

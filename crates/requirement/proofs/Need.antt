@@ -4,10 +4,10 @@ use Prim.Native.Nat.{ℕ, _+_, _-_, _≤_}
 use native.Mathlib.Omega.{arith}
 use lib.IntN.{ℤ, pos, _+ℤ_}
 use Rattle.signed.specs.Sign.{above, below, greater}
-use Rattle.signed.proofs.Whole.{one-sided, sum, less}
+use Rattle.signed.proofs.Whole.{one-sided, sum}
 use Rattle.signed.proofs.Orders.{greater-zero}
 use Rattle.requirement.specs.Requirement.{start, back}
-use Rattle.requirement.proofs.Shortfall.{shortfall, start-is, back-le}
+use Rattle.requirement.proofs.Shortfall.{start-sum, back-le}
 
 pub greater-sum : (s : ℤ) (b : ℕ) → greater (pos 0) (s +ℤ pos b) ≡ pos (above s + b - below s)
 greater-sum s b =
@@ -23,11 +23,7 @@ module _ (REV ER : ℕ) (e : ℕ → ℕ) (i : ℕ) where
   needed-is = greater-sum (start REV ER e i) (back ER e i)
 
   pub start-above : above (start REV ER e i) ≤ REV
-  start-above =
-      let is = start-is REV ER e i in
-      omega (arith, ap above is, ap below is, less (pos REV) (pos (shortfall ER e i)), one-sided (start REV ER e i))
+  start-above = omega (arith, start-sum REV ER e i, one-sided (start REV ER e i))
 
   pub needed-most : needed ≤ REV
-  needed-most =
-      let is = start-is REV ER e i in
-      omega (arith, ap above is, ap below is, less (pos REV) (pos (shortfall ER e i)), back-le ER e i)
+  needed-most = omega (arith, start-sum REV ER e i, back-le ER e i)

@@ -1,1 +1,2 @@
 pub mod Requirement
+pub mod Stacking

@@ -3,10 +3,10 @@
 -- operation in play. Assumes nothing.
 use mathlib.Core.Path.{_≡_, refl, ap}
 use mathlib.Core.Bool.{Bool, true, false, not, cond}
-use Prim.Native.Nat.{ℕ, zero, suc, _+_, _-_, _≤_, _<_, min}
+use Prim.Native.Nat.{ℕ, zero, suc, _+_, _*_, _-_, _≤_, _<_, min}
 use native.Mathlib.Omega.{arith}
 use lib.Dec.{T, ltb, ltb→lt, nltb→le, leb→le, le→leb, lt→ltb}
-use lib.IntN.{ℤ, pos, negsuc, negℤ, natAbs, subℕ, _+ℤ_, _-ℤ_}
+use lib.IntN.{ℤ, pos, negsuc, negℤ, natAbs, subℕ, _+ℤ_, _-ℤ_, _*ℤ_}
 use lib.Signed.{leZ, ltZ, _≤ℤ_, _<ℤ_}
 use Rattle.signed.specs.Sign.{above, below}
 
@@ -49,6 +49,16 @@ neg z = omega (arith, above-neg z, below-neg z)
 
 pub less : (a b : ℤ) → above (a -ℤ b) + (below a + above b) ≡ above a + below b + below (a -ℤ b)
 less a b = omega (arith, sum a (negℤ b), above-neg b, below-neg b)
+
+-- ---- a natural number times a whole one
+
+pub above-times : (n : ℕ) (z : ℤ) → above (pos n *ℤ z) ≡ n * above z
+above-times n (pos m) = refl
+above-times n (negsuc m) = omega (arith, above-neg (pos (n * suc m)))
+
+pub below-times : (n : ℕ) (z : ℤ) → below (pos n *ℤ z) ≡ n * below z
+below-times n (pos m) = omega arith
+below-times n (negsuc m) = omega (arith, below-neg (pos (n * suc m)))
 
 -- ---- order
 
