@@ -79,12 +79,7 @@ fn show(number: i64, before: &[u8], output: &[u8]) -> String {
 }
 
 /// Compares the number, the output with the bytes past 488, and that the input is as it was. Gives the number and the output.
-pub fn report(
-    topic: &'static str,
-    input: &[u8],
-    room: usize,
-    tally: &mut Tally,
-) -> (i64, Vec<u8>) {
+pub fn report(topic: &'static str, input: &[u8], room: usize, tally: &mut Tally) -> (i64, Vec<u8>) {
     assert!(room <= BEHIND);
     let before: Vec<u8> = (0..BEHIND).map(|i| (i * 7 + 1) as u8).collect();
     let mut expected = before.clone();

@@ -29,9 +29,7 @@ pub fn shell_lines(section: &str, first: &str) -> Vec<String> {
     let section = page.split("\n## ").find(|s| s.starts_with(&heading));
     let mut paragraphs = section.unwrap_or("").split("\n\n");
     let beginning = format!("    {first}");
-    let lines = paragraphs
-        .find(|p| p.starts_with(&beginning))
-        .unwrap_or("");
+    let lines = paragraphs.find(|p| p.starts_with(&beginning)).unwrap_or("");
     lines
         .lines()
         .map(|l| l.strip_prefix("    ").unwrap_or(l).to_string())

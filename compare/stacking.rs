@@ -249,26 +249,25 @@ pub fn any(random: &mut Random, count: usize, tally: &mut Tally) {
     }
 }
 
-/// Small contracts with every two bounds of a few, at what a period recovers and beside it, in two periods after each other.
+/// A contract of 1 MW with each two of a few bounds, none, at what a period recovers, beside it and the greatest, in two periods
+/// after each other.
+fn small(mw: Direction, period: usize) -> Vec<Contract> {
+    let er = mw.er();
+    let few = [0, 1, er - 1, er, er + 1, mw.greatest_bound()];
+    let twos = few.iter().flat_map(|&e| few.map(|f| [e, f]));
+    twos.map(|two| {
+        let mut bounds = [0; 8];
+        bounds[period..period + 2].copy_from_slice(&two);
+        Contract { mw, bounds }
+    })
+    .collect()
+}
+
 pub fn edges(tally: &mut Tally) {
-    const TOPIC: &str = "stacking, edges";
-    let (one, other) = (Direction([1, 0, 0]), Direction([0, 1, 0]));
-    let few = |mw: &Direction| {
-        let er = mw.er();
-        [0, 1, er - 1, er, er + 1, mw.greatest_bound()]
-    };
     for period in 0..7 {
-        for e in few(&one) {
-            for e_next in few(&one) {
-                for f in few(&other) {
-                    for f_next in few(&other) {
-                        let mut a = Contract { mw: one, bounds: [0; 8] };
-                        let mut b = Contract { mw: other, bounds: [0; 8] };
-                        a.bounds[period..period + 2].copy_from_slice(&[e, e_next]);
-                        b.bounds[period..period + 2].copy_from_slice(&[f, f_next]);
-                        stack(TOPIC, 1, [a, b], tally);
-                    }
-                }
+        for a in small(Direction([1, 0, 0]), period) {
+            for b in small(Direction([0, 1, 0]), period) {
+                stack("stacking, edges", 1, [a, b], tally);
             }
         }
     }
@@ -317,9 +316,16 @@ fn contract_in(row: &str) -> Contract {
 /// left in each, and how much combining saves; and README shows that.
 pub fn readme(tally: &mut Tally) {
     let lines = readme::shell_lines("Two contracts as one", "while ");
-    let contracts: Vec<Contract> = readme::handed_on(&lines).map(|row| contract_in(row)).collect();
+    let contracts: Vec<Contract> = readme::handed_on(&lines)
+        .map(|row| contract_in(row))
+        .collect();
     let [a, b, both] = contracts[..] else {
-        stop(README, lines.join("\n").as_bytes(), "three rows", "not three")
+        stop(
+            README,
+            lines.join("\n").as_bytes(),
+            "three rows",
+            "not three",
+        )
     };
     let combined = a.combined(&b);
     printed("the MW added", combined.mw, both.mw);

@@ -4,5 +4,6 @@ pub mod Need
 pub mod Passing
 pub mod Filling
 pub mod Matching
+pub mod Contracts
 pub mod Stacking
 pub mod Multiples

@@ -1,5 +1,4 @@
--- Paper 02, No. 10: REV, ER and each bound multiplied by one number. Over any bounds and any number of periods; `multiple` has it of
--- a contract at any period. Assumes nothing.
+-- Paper 02, No. 10: a contract multiplied by a whole number, 0 or more; with any number of bounds, at any period. Assumes nothing.
 use mathlib.Core.Path.{_≡_, sym, ap}
 use mathlib.Core.Bool.{Bool, true, false, cond}
 use Prim.Native.Nat.{ℕ, zero, suc, _+_, _*_, _-_, _≤_, min}
@@ -7,13 +6,13 @@ use native.Mathlib.Nat.{mul-add, mul-sub, mul-zero, mul-le-mul-left}
 use native.Mathlib.Omega.{arith}
 use native.Mathlib.Decide.{decLe}
 use lib.Dec.{leb}
-use lib.IntN.{ℤ, pos, _*ℤ_}
-use lib.ListN.{getD, List·getD-map}
-use Rattle.common.specs.Periods.{ofPeriod}
+use lib.IntN.{pos, _*ℤ_}
+use lib.ListN.{List·getD-map}
 use Rattle.signed.proofs.Whole.{above-times, below-times, same}
-use Rattle.requirement.specs.Requirement.{left, sched, back, start}
-use Rattle.requirement.specs.Stacking.{Contract, eachTimes, multiplied, Multiple, Multiples}
-use Rattle.requirement.proofs.Shortfall.{shortfall, left-over, start-sum}
+use Rattle.requirement.specs.Requirement.{left, sched, back}
+use Rattle.requirement.specs.Stacking.{Contract, startIn, schedIn, leftIn, multiplied, Multiple, Multiples}
+use Rattle.requirement.proofs.Shortfall.{shortfall}
+use Rattle.requirement.proofs.Contracts.{boundIn, backIn, shortIn, over, start-short}
 
 min-times : (m a b : ℕ) → min (m * a) (m * b) ≡ m * min a b
 min-times m a b = by (decLe a b)
@@ -22,62 +21,61 @@ min-times m a b = by (decLe a b)
     by (yes h) = let least : min a b ≡ a = omega arith in rw least (omega (arith, mul-le-mul-left m h))
     by (no h) = let l : b ≤ a = omega arith in let least : min a b ≡ b = omega arith in rw least (omega (arith, mul-le-mul-left m l))
 
-module _ (m ER : ℕ) (e f : ℕ → ℕ) (times : (i : ℕ) → f i ≡ m * e i) where
-  left-times : (i : ℕ) → left (m * ER) f i ≡ m * left ER e i
+module _ (m : ℕ) (c : Contract) where
+  abbrev times : Contract
+  times = multiplied m c
+
+  bound-times : (i : ℕ) → boundIn times i ≡ m * boundIn c i
+  bound-times i = rw (mul-zero m) at (List·getD-map (λ (e : ℕ). m * e) (c .bounds) (i - 1) 0)
+
+  over-times : (i : ℕ) → leftIn times (suc i) ≡ m * leftIn c (suc i) → leftIn times (suc (suc i)) ≡ m * leftIn c (suc (suc i))
+  over-times i h =
+      let due = leftIn c (suc i) + boundIn c (suc i) in
+      rw (over c i) (omega (arith, over times i, h, bound-times (suc i), mul-sub m due (c .ER)))
+
+  left-times : (i : ℕ) → leftIn times i ≡ m * leftIn c i
   unfolding left
   left-times zero = sym (mul-zero m)
   left-times (suc zero) = sym (mul-zero m)
-  left-times (suc (suc i)) =
-      let l = left ER e (suc i) in
-      rw (left-over (m * ER) f i, left-over ER e i, left-times (suc i), times (suc i), mul-sub m (l + e (suc i)) ER, mul-add m l (e (suc i)))
+  left-times (suc (suc i)) = over-times i (left-times (suc i))
 
-  sched-times : (i : ℕ) → sched (m * ER) f i ≡ m * sched ER e i
+  sched-times : (i : ℕ) → schedIn times i ≡ m * schedIn c i
   unfolding sched
-  sched-times i = rw (left-times i, times i, ← (mul-add m (e i) (left ER e i))) (min-times m (e i + left ER e i) ER)
+  sched-times i =
+      let due = boundIn c i + leftIn c i in
+      omega (arith, left-times i, bound-times i, min-times m due (c .ER))
 
-  back-times : (i : ℕ) → back (m * ER) f i ≡ m * back ER e i
+  back-times : (i : ℕ) → backIn times i ≡ m * backIn c i
   unfolding back
   back-times i = by (leb i 4)
     where
-      by : (c : Bool) → cond c 0 (sched (m * ER) f (i - 4)) ≡ m * cond c 0 (sched ER e (i - 4))
+      by : (b : Bool) → cond b 0 (schedIn times (i - 4)) ≡ m * cond b 0 (schedIn c (i - 4))
       by true = sym (mul-zero m)
       by false = sched-times (i - 4)
 
-  shortfall-times : (i : ℕ) → shortfall (m * ER) f i ≡ m * shortfall ER e i
+  short-times : (i : ℕ) → shortIn times i ≡ m * shortIn c i
   unfolding shortfall
-  shortfall-times zero = sym (mul-zero m)
-  shortfall-times (suc zero) = sym (mul-zero m)
-  shortfall-times (suc (suc i)) =
-      let s = shortfall ER e (suc i) in
-      rw (shortfall-times (suc i), back-times (suc i), times (suc i), mul-sub m (s + e (suc i)) (back ER e (suc i)), mul-add m s (e (suc i)))
+  short-times zero = sym (mul-zero m)
+  short-times (suc zero) = sym (mul-zero m)
+  short-times (suc (suc i)) =
+      let short = shortIn c (suc i) in
+      rw (short-times (suc i), back-times (suc i), bound-times (suc i), mul-sub m (short + boundIn c (suc i)) (backIn c (suc i)), mul-add m short (boundIn c (suc i)))
 
-  start-times : (REV i : ℕ) → start (m * REV) (m * ER) f i ≡ pos m *ℤ start REV ER e i
-  start-times REV i =
-      let s = start REV ER e i in
-      same (start (m * REV) (m * ER) f i) (pos m *ℤ s)
-      (omega (
-        arith,
-        start-sum (m * REV) (m * ER) f i,
-        ap (λ (n : ℕ). m * n) (start-sum REV ER e i),
-        shortfall-times i,
-        above-times m s,
-        below-times m s,
-      ))
+  module _ (i : ℕ) where
+    start-times : startIn times i ≡ pos m *ℤ startIn c i
+    start-times =
+        same (startIn times i) (pos m *ℤ startIn c i)
+        (omega (
+          arith,
+          start-short times i,
+          ap (λ (n : ℕ). m * n) (start-short c i),
+          short-times i,
+          above-times m (startIn c i),
+          below-times m (startIn c i),
+        ))
 
--- ---- a contract
-
-times-at : (m : ℕ) (c : Contract) (i : ℕ) → ofPeriod (multiplied m c .bounds) i ≡ m * ofPeriod (c .bounds) i
-times-at m c i = rw (mul-zero m) at (List·getD-map (λ (e : ℕ). m * e) (c .bounds) (i - 1) 0)
-
-pub multiple : (m : ℕ) (c : Contract) (i : ℕ) → Multiple m c i
-multiple m c i =
-    let e = ofPeriod (c .bounds) in
-    let f = ofPeriod (multiplied m c .bounds) in
-    record {
-      starts = start-times m (c .ER) e f (times-at m c) (c .REV) i;
-      schedules = sched-times m (c .ER) e f (times-at m c) i;
-      lefts = left-times m (c .ER) e f (times-at m c) i;
-    }
+    pub multiple : Multiple m c i
+    multiple = record { starts = start-times; schedules = sched-times i; lefts = left-times i }
 
 pub multiples : Multiples
 multiples m c eight i first last = multiple m c i

@@ -10,14 +10,13 @@ use borrow.Author.Tests.{le-leb, lt-leb}
 use lib.Dec.{leb}
 use lib.IntN.{ℤ, pos, _+ℤ_, _-ℤ_}
 use lib.ListN.{length, getD}
-use Rattle.common.specs.Periods.{ofPeriod}
 use Rattle.signed.specs.Sign.{above, below}
-use Rattle.signed.proofs.Signs.{sub-pos}
 use Rattle.signed.proofs.Whole.{whole, sum, less, same}
 use Rattle.terms.specs.Terms.{REV, ER}
-use Rattle.requirement.specs.Requirement.{left, back}
+use Rattle.requirement.specs.Requirement.{left}
 use Rattle.requirement.specs.Stacking.{Contract, startIn, leftIn, eachAdded, combined, savedBefore, Stacked, Stacking, mwAdded, mwTimes, InMW}
-use Rattle.requirement.proofs.Shortfall.{shortfall, back-none, four-on, start-sum}
+use Rattle.requirement.proofs.Shortfall.{shortfall}
+use Rattle.requirement.proofs.Contracts.{boundIn, shortIn, none-back, short-later, start-short}
 
 added-at : (xs ys : List ℕ) → length xs ≡ length ys → (k : ℕ) → getD (eachAdded xs ys) k 0 ≡ getD xs k 0 + getD ys k 0
 unfolding zipWith
@@ -26,25 +25,6 @@ added-at [] (y ∷ ys) long k = absurd (omega arith)
 added-at (x ∷ xs) [] long k = absurd (omega arith)
 added-at (x ∷ xs) (y ∷ ys) long zero = refl
 added-at (x ∷ xs) (y ∷ ys) long (suc k) = added-at xs ys (omega arith) k
-
--- ---- a contract by natural numbers
-
-module _ (c : Contract) where
-  abbrev boundIn : ℕ → ℕ
-  boundIn = ofPeriod (c .bounds)
-
-  abbrev shortIn : ℕ → ℕ
-  shortIn = shortfall (c .ER) boundIn
-
-  none-back : (i : ℕ) → i ≤ 4 → back (c .ER) boundIn i ≡ 0
-  none-back = back-none (c .ER) boundIn
-
-  short-later : (i : ℕ) → shortIn (suc (suc (suc (suc (suc i)))))
-      ≡ leftIn c (suc i) + boundIn (suc i) + boundIn (suc (suc i)) + boundIn (suc (suc (suc i))) + boundIn (suc (suc (suc (suc i))))
-  short-later = four-on (c .ER) boundIn
-
-  start-short : (i : ℕ) → above (startIn c i) + shortIn i ≡ c .REV + below (startIn c i)
-  start-short = start-sum (c .REV) (c .ER) boundIn
 
 -- ---- two contracts with as many bounds each
 
@@ -111,12 +91,13 @@ module _ (a b : Contract) (long : length (a .bounds) ≡ length (b .bounds)) whe
         by (yes h) = rw (le-leb i 4 h)
         by (no h) = let n = none (omega arith) in rw (lt-leb i 4 (omega arith)) (omega (arith, n .0, n .1))
 
-    saved-is : savedBefore a b i ≡ pos more
+    saved-is : above (savedBefore a b i) ≡ more + below (savedBefore a b i)
     saved-is = by (decLe i 4)
       where
-        by : Dec (i ≤ 4) → savedBefore a b i ≡ pos more
+        by : Dec (i ≤ 4) → above (savedBefore a b i) ≡ more + below (savedBefore a b i)
         by (yes h) = rw (le-leb i 4 h)
-        by (no h) = rw (lt-leb i 4 (omega arith)) (sub-pos (leftIn a (i - 4) + leftIn b (i - 4)) (leftIn both (i - 4)) (left-most (i - 4)))
+        by (no h) =
+            rw (lt-leb i 4 (omega arith)) (omega (arith, less (pos (leftIn a (i - 4) + leftIn b (i - 4))) (pos (leftIn both (i - 4))), left-most (i - 4)))
 
     abbrev separate : ℤ
     separate = startIn a i +ℤ startIn b i
@@ -129,7 +110,7 @@ module _ (a b : Contract) (long : length (a .bounds) ≡ length (b .bounds)) whe
         record {
           at-least = omega (arith, whole, start-more);
           equal = λ none. same (startIn both i) separate (omega (arith, start-more, none-more (λ h. none (i - 4) (omega arith) (omega arith))));
-          cost = same (startIn both i -ℤ separate) (pos more) (omega (arith, start-more, less (startIn both i) separate)) ∙ sym saved-is;
+          cost = same (startIn both i -ℤ separate) (savedBefore a b i) (omega (arith, start-more, less (startIn both i) separate, saved-is));
         }
 
 pub stacking : Stacking
