@@ -1,6 +1,6 @@
 //! Compares the proved code with a second program that was written from papers 01 and 02 alone: the functions of include/soe.h
-//! as a host calls them, what the programs containment_table and test_readings print, and the rest through the program
-//! ledger_trace.
+//! as a host calls them, what the programs containment_table and test_readings and README's lines of a shell print, and the rest
+//! through the program ledger_trace.
 //!
 //! `compare SEED ROUNDS LEDGER_TRACE CONTAINMENT_TABLE TEST_READINGS`, from the repository's root. It stops at the first
 //! difference with exit status 1. `compare gain LEDGER_TRACE` prints the table of docs/WATTS.md.

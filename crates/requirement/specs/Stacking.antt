@@ -3,11 +3,13 @@
 -- `Stacking`, in words: take two contracts with eight bounds each, and a third with REV, ER and each bound added. Each of its nine
 -- starts is at least the sum of the two separate starts. It equals that sum wherever neither contract has had anything left before.
 -- And it is above that sum by exactly the left that combining saves four periods before: what the two have left in that period,
--- less what the third has left in it. What one contract leaves then comes back by the ER that the other does not use, and so sooner.
--- `Multiples`, in words: multiply REV, ER and all bounds of a contract by one whole number, 0 or more. Each start, schedule and left
--- is then that number times what it was.
+-- less what the third has left in it. What one contract leaves then comes back by the ER that the other does not use, and so
+-- sooner.
+-- `Multiples`, in words: multiply REV, ER and all bounds of a contract by one whole number, 0 or more. Each start, schedule and
+-- left is then that number times what it was.
 -- `InMW`, in words: add the MW of two contracts, service by service, or multiply those of one. REV and ER are then added, or
--- multiplied. So the report of the MW and bounds together is that of the combined contract.
+-- multiplied. So a report of the MW and bounds of both is that of the combined contract.
+-- The first two hold for any number of bounds, as many in each contract, and any period: `stacked` and `multiple`.
 -- Assumes nothing.
 use mathlib.Core.Path.{_≡_}
 use mathlib.Core.Bool.{cond}
@@ -29,7 +31,7 @@ pub record Contract : Type 0 where
   pub ER : ℕ
   pub bounds : List ℕ
 
--- what period i has, and start 9, by the definitions that every table has
+-- start, sched and left of period i, by the definitions that the rows of every table have; start 9 is `startIn c 9`
 module _ (c : Contract) (i : ℕ) where
   abbrev pub startIn : ℤ
   startIn = start (c .REV) (c .ER) (ofPeriod (c .bounds)) i
