@@ -1,5 +1,7 @@
 // What the timing program in bench/ links: period energy over numbers, by steps and by table, with curves chosen at run time; the
 // response by table; and closings.
+#![tactic(auto)]
+
 ghost use Rattle.std.specs.Prelude.{◌≡◌, ◌+◌, ◌*◌};
 ghost use Rattle.ledger.specs.Calls.{closing_with};
 ghost use Rattle.energy.specs.Containment.{response_by_table};

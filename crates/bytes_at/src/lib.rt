@@ -1,4 +1,6 @@
 // Numbers in a byte slice, read and written at an offset, the lowest byte first: what a C host keeps between calls.
+#![tactic(auto)]
+
 ghost use Rattle.std.specs.Prelude.{◌≡◌, ◌+◌, ◌<◌, ◌^◌, get_or};
 ghost use Rattle.common.specs.Lists.{placed};
 ghost use Rattle.bytes_at.specs.Numbers.{bytes_of, number_at};

@@ -1,4 +1,6 @@
 // Headroom and footroom, response capability and contracted quantity of a unit, in kW.
+#![tactic(auto)]
+
 ghost use Rattle.std.specs.Prelude.{◌≡◌, true, [], ◌∷◌, ◌+◌, ◌/◌, ◌^◌, ◌≤◌, ◌<◌, ◌-ℤ◌};
 ghost use Rattle.std.specs.Int.Signed.{le_z};
 ghost use Rattle.common.specs.Fraction.{rounded_down};

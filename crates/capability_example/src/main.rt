@@ -1,5 +1,7 @@
 // The examples of document 003 in kW, one a line: of appendix 1 headroom and footroom at each time, of appendix 2 room and
 // capability. Then the contracted quantities of 02, No. 6, four for a direction.
+#![tactic(auto)]
+
 use capability::{CapabilityAnswer, Energies, Limits, Point, Points, QuantityAnswer};
 use libc::STDOUT_FILENO;
 

@@ -1,4 +1,6 @@
 // Numbers as text: right-justified in columns, a number's line, and the number that nine columns hold.
+#![tactic(auto)]
+
 ghost use Rattle.std.specs.Prelude.{◌≡◌, ◌<◌, pos, length, take};
 ghost use Rattle.common.specs.Lists.{placed};
 ghost use Rattle.columns.specs.Number as Number;

@@ -1,4 +1,6 @@
 // Prints the table for the containment curve, worked out by interpolation: one number a line, in nine columns.
+#![tactic(auto)]
+
 use energy::containment::interpolated_table;
 use libc::STDOUT_FILENO;
 

@@ -1,4 +1,6 @@
 // Start and cease instructions of one direction: the machine that follows them.
+#![tactic(auto)]
+
 ghost use Rattle.std.specs.Prelude.{◌≡◌};
 ghost use Rattle.common.specs.Answer.{number_of};
 ghost use Rattle.instructions.specs.Instructions.{fresh, acceptance, accepted, rejected, effective, late, pending_by, due_by, soon, too_soon, idle, delivering, unanswered, conditions_met, suits, acted, following, answer_of};

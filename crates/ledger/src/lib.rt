@@ -1,4 +1,6 @@
 // The ledger: checking, proposing and closing, over the record of ledger_record.
+#![tactic(auto)]
+
 ghost use Rattle.std.specs.Prelude.{◌≡◌, not, ◌||◌, ◌+◌, ◌≤◌, ◌<◌, ◌^◌, eqb, pos, ◌+ℤ◌, ◌-ℤ◌};
 ghost use Rattle.common.specs.Answer.{number_of, or_blank};
 ghost use Rattle.signed.specs.Sign.{within};

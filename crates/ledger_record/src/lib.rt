@@ -1,4 +1,6 @@
 // The ledger's record, its rule and opening.
+#![tactic(auto)]
+
 ghost use Rattle.std.specs.Prelude.{◌≡◌, cond, ◌&&◌, ◌+◌, ◌*◌, ◌<◌, ◌^◌, leb, eqb, pos};
 ghost use Rattle.common.specs.Answer.{number_of, is_given, or_blank};
 ghost use Rattle.common.specs.Lists.{sum};

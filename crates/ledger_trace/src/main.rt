@@ -1,4 +1,6 @@
 // Makes the calls that standard input names, one to a line, and prints each answer: a trace to compare with another program.
+#![tactic(auto)]
+
 ghost use Rattle.std.specs.Prelude.{◌≡◌, length};
 
 mod calls;

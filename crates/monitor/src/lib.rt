@@ -1,4 +1,6 @@
 // The monitor: eight bounds and eight reported energies of one direction give eight rows with a verdict each.
+#![tactic(auto)]
+
 ghost use Rattle.std.specs.Prelude.{◌≡◌, ltb};
 ghost use Rattle.common.specs.Answer.{number_of, or_blank};
 ghost use Rattle.common.specs.Lists.{some_entry};

@@ -1,5 +1,7 @@
 // Prints the low and the high table of document 000 in the report's columns: paper 01's reported energies for the low one,
 // 0 in each period for the high one.
+#![tactic(auto)]
+
 use libc::STDOUT_FILENO;
 use monitor::Row;
 use terms::Quantities;

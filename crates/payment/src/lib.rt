@@ -1,4 +1,6 @@
 // Real-time payment: what a period's pieces of quantity and time pay, in pence.
+#![tactic(auto)]
+
 ghost use Rattle.std.specs.Prelude.{◌≡◌, ◌*◌, ◌≤◌, max};
 ghost use Rattle.common.specs.Answer.{number_of};
 ghost use Rattle.payment.specs.Exact.{rounded};

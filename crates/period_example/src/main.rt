@@ -2,6 +2,8 @@
 // 49,984 and of one at 50,000 under 100 MW of regulation each way; what the check names in a block with a bad reading, and for
 // another count; the first reading and the length of the part of period 2. At twenty: the bounds of a period at 49,984, and
 // the check and the part of such a block.
+#![tactic(auto)]
+
 use energy::block::{BlockCheck, check_block, part};
 use energy::curve::{Curves, containment_curve, regulation_curve};
 use energy::period::{PeriodEnergy, number, period_energy};

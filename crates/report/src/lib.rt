@@ -1,4 +1,6 @@
 // The report: text in, table out.
+#![tactic(auto)]
+
 ghost use Rattle.std.specs.Prelude.{◌≡◌, ◌++◌, ◌+◌, ◌^◌, ◌<◌, ◌≤◌, length, drop, replicate};
 ghost use Rattle.common.specs.Answer.{number_of};
 ghost use Rattle.report.specs.Input.{terms_of, energies_of, line_at, MovedOn, lines_of, no_input, input_of};

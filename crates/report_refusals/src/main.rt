@@ -1,4 +1,6 @@
 // The numbers that the report gives for the texts on standard input, 189 bytes each and the last a byte short; 0 is the table.
+#![tactic(auto)]
+
 use libc::{STDIN_FILENO, STDOUT_FILENO};
 
 fn show(input: &[u8], output: &mut [u8]) {

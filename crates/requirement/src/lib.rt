@@ -1,4 +1,6 @@
 // The requirement of one direction over the eight periods of a block.
+#![tactic(auto)]
+
 ghost use Rattle.std.specs.Prelude.{◌≡◌, ◌≤◌, ◌^◌, min, pos, ◌-ℤ◌};
 ghost use Rattle.terms.specs.Terms.{REV, ER};
 ghost use Rattle.requirement.specs.Requirement.{RowFits, row_from, table_of, noted, matched_to};

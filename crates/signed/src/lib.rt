@@ -1,4 +1,6 @@
 // The few functions that cross between i64 and unsigned numbers. The crates above compare signed numbers and leave all else to them.
+#![tactic(auto)]
+
 ghost use Rattle.std.specs.Prelude.{◌≡◌, pos, ◌-ℤ◌};
 ghost use Rattle.signed.specs.Sign.{above, below, nearest};
 

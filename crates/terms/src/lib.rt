@@ -1,4 +1,6 @@
 // The services of Dynamic Response with their constants, the terms of a direction, and the terms check.
+#![tactic(auto)]
+
 ghost use Rattle.std.specs.Prelude.{◌≡◌, ◌<◌, ◌^◌};
 ghost use Rattle.common.specs.Answer.{number_of};
 ghost use Rattle.terms.specs.Terms.{direction_terms, above1000, power, limit_broken, limits_broken, answer_of, terms_check};

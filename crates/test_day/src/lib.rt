@@ -1,4 +1,6 @@
 // A test day: readings that anyone can repeat from a seed, and a period of them as text.
+#![tactic(auto)]
+
 ghost use Rattle.std.specs.Prelude.{◌≡◌, ◌+◌, ◌≤◌, length};
 ghost use mathlib.Core.List.{flat_map};
 ghost use Rattle.common.specs.Answer.{number_of};

@@ -1,4 +1,6 @@
 // A period of test readings for the seed on standard input, one byte past 11 being enough to see that its line is too long.
+#![tactic(auto)]
+
 use libc::{STDIN_FILENO, STDOUT_FILENO};
 
 fn main() {
