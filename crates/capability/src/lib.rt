@@ -12,7 +12,7 @@ ghost use Rattle.capability.specs.Capability.{answer_of, room_answer, capability
 ghost use Rattle.capability.specs.Quantity.{capability_or_limit, data_rule, availability_rule, energies_rule, energy_of, no_quantity, quantity_answer, answer_of_quantity};
 
 // Maximum and stable import limits, stable and maximum export limits, operating level.
-#[derive(Drop)]
+#[derive(Clone, Copy)]
 pub struct Limits {
     pub mil: i64,
     pub sil: i64,
@@ -21,20 +21,20 @@ pub struct Limits {
     pub ol: i64,
 }
 
-#[derive(Drop)]
+#[derive(Clone, Copy)]
 pub struct Point {
     pub room: u32,
     pub capability: u32,
 }
 
 // Points past the count are ignored.
-#[derive(Drop)]
+#[derive(Clone, Copy)]
 pub struct Points {
     pub count: u32,
     pub points: [Point; 5],
 }
 
-#[derive(Drop)]
+#[derive(Clone, Copy)]
 pub enum CapabilityAnswer {
     // A room or a capability.
     Power(u64),
@@ -43,13 +43,13 @@ pub enum CapabilityAnswer {
 }
 
 // A unit's remaining deliverable energy for offers and for bids, in kWh.
-#[derive(Drop)]
+#[derive(Clone, Copy)]
 pub struct Energies {
     pub offer: u32,
     pub bid: u32,
 }
 
-#[derive(Drop)]
+#[derive(Clone, Copy)]
 pub enum QuantityAnswer {
     // The contracted quantity.
     Quantity(u64),

@@ -7,7 +7,7 @@ ghost use Rattle.columns.specs.Number as Number;
 ghost use Rattle.columns.specs.Line.{column_of, number_line, number_at};
 
 // What columns hold: blanks only, a number, or neither.
-#[derive(Drop)]
+#[derive(Clone, Copy)]
 pub enum Field {
     Blank,
     Number(u32),
@@ -71,7 +71,7 @@ pub fn number_at(line: &[u8], at: usize) -> Field
 // ---- printing
 
 // A column's byte, and what is left for the columns before it: of the number, and whether a - is due.
-#[derive(Drop)]
+#[derive(Clone, Copy)]
 struct Column {
     byte: u8,
     rest: u64,

@@ -2,21 +2,21 @@
 ghost use Rattle.std.specs.Prelude.{◌≡◌};
 ghost use Rattle.energy.specs.Curve.{in_range, rises, curve_rule, curves_rule, regulation_curve, containment_curve};
 
-#[derive(Drop)]
+#[derive(Clone, Copy)]
 pub struct Point {
     pub deviation: u16,
     pub share: u16,
 }
 
 // Points past the count are ignored.
-#[derive(Drop)]
+#[derive(Clone, Copy)]
 pub struct Curve {
     pub count: u8,
     pub points: [Point; 5],
 }
 
 // One curve for each service, for both directions.
-#[derive(Drop)]
+#[derive(Clone, Copy)]
 pub struct Curves {
     pub dc: Curve,
     pub dm: Curve,

@@ -10,7 +10,7 @@ use crate::rate::is_period_count;
 use crate::table::{largest_deviations, sum_responses};
 use terms::Quantities;
 
-#[derive(Drop)]
+#[derive(Clone, Copy)]
 pub enum PeriodEnergy {
     // Both directions, in kWh.
     Bounds { low: u32, high: u32 },

@@ -13,7 +13,7 @@ use terms::Quantities;
 // ---- the largest deviations
 
 // The largest deviation of each direction.
-#[derive(Drop)]
+#[derive(Clone, Copy)]
 pub(crate) struct Deviations {
     pub(crate) low: u16,
     pub(crate) high: u16,
@@ -170,7 +170,7 @@ fn fill_direction(q: Quantities, curves: Curves, most: u16, table: &mut [u32], b
 // ---- the sums
 
 // What each direction's services respond to the readings, summed.
-#[derive(Drop)]
+#[derive(Clone, Copy)]
 pub(crate) struct Sums {
     pub(crate) low: u64,
     pub(crate) high: u64,

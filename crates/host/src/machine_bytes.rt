@@ -5,7 +5,7 @@ ghost use Rattle.host.specs.MachineBytes.{field_bytes, fields_in, pending_fields
 use instructions::{Machine, Pending, State};
 
 // State is 0 idle, 1 start pending, 2 delivering, 3 cease pending; accepted is 0 or 1; `at` is the start or cease time.
-#[derive(Drop)]
+#[derive(Clone, Copy)]
 pub(crate) struct Fields {
     state: u32,
     accepted: u32,

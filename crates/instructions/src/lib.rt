@@ -6,14 +6,14 @@ ghost use Rattle.common.specs.Answer.{number_of};
 ghost use Rattle.instructions.specs.Instructions.{fresh, acceptance, accepted, rejected, effective, late, pending_by, due_by, soon, too_soon, idle, delivering, unanswered, conditions_met, suits, acted, following, answer_of};
 
 // An instruction that is pending: its issue, its start or cease time, and whether it was accepted.
-#[derive(Drop)]
+#[derive(Clone, Copy)]
 pub struct Pending {
     pub issue: u64,
     pub at: u64,
     pub accepted: bool,
 }
 
-#[derive(Drop)]
+#[derive(Clone, Copy)]
 pub enum State {
     Idle,
     StartPending(Pending),
@@ -22,7 +22,7 @@ pub enum State {
 }
 
 // The state, and the time of the last event.
-#[derive(Drop)]
+#[derive(Clone, Copy)]
 pub struct Machine {
     pub state: State,
     pub last: u64,
@@ -30,7 +30,7 @@ pub struct Machine {
 
 // What a start says of the unit: its submitted limit, whether it is available and armed, and its energy for this direction in
 // kWh, for offers in the low one and for bids in the high one.
-#[derive(Drop)]
+#[derive(Clone, Copy)]
 pub struct Conditions {
     pub limit: u32,
     pub available: bool,
@@ -38,7 +38,7 @@ pub struct Conditions {
     pub energy: u32,
 }
 
-#[derive(Drop)]
+#[derive(Clone, Copy)]
 pub enum Action {
     Start { at: u64, conditions: Conditions },
     Cease { at: u64 },
@@ -48,13 +48,13 @@ pub enum Action {
 }
 
 // What happens, and its time in whole seconds, which for a start or cease is its issue.
-#[derive(Drop)]
+#[derive(Clone, Copy)]
 pub struct Event {
     pub time: u64,
     pub action: Action,
 }
 
-#[derive(Drop)]
+#[derive(Clone, Copy)]
 pub enum FollowAnswer {
     // The machine afterwards.
     Followed(Machine),

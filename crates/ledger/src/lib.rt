@@ -12,7 +12,7 @@ use ledger_record::{Entries, Record, Standing, Totals};
 use requirement::Next;
 use terms::{DirectionTerms, Quantities};
 
-#[derive(Drop)]
+#[derive(Clone, Copy)]
 pub enum CheckAnswer {
     Accepted,
     // Eight periods are closed, or the record rule is broken.
@@ -21,13 +21,13 @@ pub enum CheckAnswer {
     Purchase,
 }
 
-#[derive(Drop)]
+#[derive(Clone, Copy)]
 pub enum ProposeAnswer {
     Purchase(i64),
     Unusable,
 }
 
-#[derive(Drop)]
+#[derive(Clone, Copy)]
 pub enum CloseAnswer {
     Closed,
     Unusable,
@@ -40,7 +40,7 @@ pub enum CloseAnswer {
     Energy,
 }
 
-#[derive(Drop)]
+#[derive(Clone, Copy)]
 pub struct Closed {
     pub answer: CloseAnswer,
     pub record: Record,
@@ -137,7 +137,7 @@ pub fn propose_purchase(given: Record) -> ProposeAnswer
 // ---- closing
 
 // The new state, where a closing settles.
-#[derive(Drop)]
+#[derive(Clone, Copy)]
 enum Settled {
     Not,
     To(u32),

@@ -15,7 +15,7 @@ use requirement::Next;
 use terms::{DirectionTerms, Quantities, Terms};
 
 // A direction's bound, requirement (its start) and schedule of each closed period.
-#[derive(Drop)]
+#[derive(Clone, Copy)]
 pub struct Entries {
     pub bounds: [u32; 8],
     pub starts: [i64; 8],
@@ -23,7 +23,7 @@ pub struct Entries {
 }
 
 // What each of the traders 1 to 4 bought and sold, and what was delivered and taken, in the closed periods.
-#[derive(Drop)]
+#[derive(Clone, Copy)]
 pub struct Totals {
     pub bought: [u32; 4],
     pub sold: [u32; 4],
@@ -32,7 +32,7 @@ pub struct Totals {
 }
 
 // Nothing in it is trusted: each call answers for any bits.
-#[derive(Drop)]
+#[derive(Clone, Copy)]
 pub struct Record {
     pub terms: Terms,
     pub curves: Curves,
@@ -45,7 +45,7 @@ pub struct Record {
     pub totals: Totals,
 }
 
-#[derive(Drop)]
+#[derive(Clone, Copy)]
 pub enum OpenAnswer {
     Open,
     // A direction is above 1,000 MW, or both are 0.
@@ -60,7 +60,7 @@ pub enum OpenAnswer {
     State,
 }
 
-#[derive(Drop)]
+#[derive(Clone, Copy)]
 pub struct Opened {
     pub answer: OpenAnswer,
     pub record: Record,
@@ -209,7 +209,7 @@ pub fn open_record(t: Terms, curves: Curves, size: u32, first: u32) -> Opened
 // ---- the record rule
 
 // One direction: whether its entries keep the rule, and what the period after the closed ones begins with.
-#[derive(Drop)]
+#[derive(Clone, Copy)]
 struct Direction {
     holds: bool,
     next: Next,
@@ -320,7 +320,7 @@ fn balances(state: u32, first: u32, totals: Totals) -> bool
 }
 
 // Whether a record keeps its rule, and what the period after the closed ones begins with in each direction.
-#[derive(Drop)]
+#[derive(Clone, Copy)]
 pub struct Standing {
     pub holds: bool,
     pub low: Next,

@@ -127,7 +127,7 @@ fn is_line(word: u64, numbers: Numbers, held: usize) -> bool {
 }
 
 // good: the line is as it must be.
-#[derive(Drop)]
+#[derive(Clone, Copy)]
 pub struct Line {
     pub good: bool,
     pub word: u64,

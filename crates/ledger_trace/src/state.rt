@@ -3,7 +3,7 @@ use energy::curve::Curves;
 use ledger_record::Record;
 
 // held: how many readings there are.
-#[derive(Drop)]
+#[derive(Clone, Copy)]
 pub struct State {
     pub held: usize,
     pub curves: Curves,

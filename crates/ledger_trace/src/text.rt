@@ -1,20 +1,20 @@
 // A line's word and numbers.
 
 // The numbers after the word; good: they are written as they must be, and are fewer than 12.
-#[derive(Drop)]
+#[derive(Clone, Copy)]
 pub struct Numbers {
     pub good: bool,
     pub count: usize,
     pub values: [i64; 12],
 }
 
-#[derive(Drop)]
+#[derive(Clone, Copy)]
 struct Digits {
     value: u64,
     next: usize,
 }
 
-#[derive(Drop)]
+#[derive(Clone, Copy)]
 struct Number {
     good: bool,
     value: i64,

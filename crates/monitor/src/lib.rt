@@ -9,7 +9,7 @@ ghost use Rattle.monitor.specs.Monitor.{judged, rows_of, zero_row, zero_rows, an
 use terms::{DirectionTerms, Quantities};
 
 // The report's fields of a period; flag: unavailability is allowed; verdict: the period passes.
-#[derive(Drop)]
+#[derive(Clone, Copy)]
 pub struct Row {
     pub period: u32,
     pub bound: u32,
@@ -22,7 +22,7 @@ pub struct Row {
     pub verdict: bool,
 }
 
-#[derive(Drop)]
+#[derive(Clone, Copy)]
 pub enum MonitorAnswer {
     Rows,
     // The direction is above 1,000 MW, or its quantity is 0.
@@ -33,7 +33,7 @@ pub enum MonitorAnswer {
     Reported,
 }
 
-#[derive(Drop)]
+#[derive(Clone, Copy)]
 pub struct Monitored {
     pub answer: MonitorAnswer,
     pub rows: [Row; 8],

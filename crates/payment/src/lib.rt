@@ -7,20 +7,20 @@ ghost use Rattle.payment.specs.Exact.{rounded};
 ghost use Rattle.payment.specs.Payment.{measured_of, parts_less, answer_of, cause_of, first_from, payment_causes, paying};
 
 // kW, for a number of seconds.
-#[derive(Drop)]
+#[derive(Clone, Copy)]
 pub struct Piece {
     pub quantity: u32,
     pub duration: u32,
 }
 
 // Pieces past the count are ignored.
-#[derive(Drop)]
+#[derive(Clone, Copy)]
 pub struct Pieces {
     pub count: usize,
     pub pieces: [Piece; 64],
 }
 
-#[derive(Drop)]
+#[derive(Clone, Copy)]
 pub enum PaymentAnswer {
     // Whole pence; below 0 the provider pays.
     Amount(i64),
@@ -33,7 +33,7 @@ pub enum PaymentAnswer {
 }
 
 // The kW times seconds of all pieces, or that the pieces break their rule.
-#[derive(Drop)]
+#[derive(Clone, Copy)]
 enum Measured {
     Work(u64),
     Over,

@@ -11,7 +11,7 @@ use columns::Field;
 use monitor::Row;
 use terms::Quantities;
 
-#[derive(Drop)]
+#[derive(Clone, Copy)]
 pub enum ReportAnswer {
     Written,
     // The text is malformed.
@@ -27,7 +27,7 @@ pub enum ReportAnswer {
 }
 
 // What a line says.
-#[derive(Drop)]
+#[derive(Clone, Copy)]
 enum Line {
     // Line 1.
     Terms { dc: u32, dm: u32, dr: u32 },
@@ -37,7 +37,7 @@ enum Line {
 }
 
 // What a text says; good: it is well-formed.
-#[derive(Drop)]
+#[derive(Clone, Copy)]
 struct Input {
     good: bool,
     quantities: Quantities,
@@ -110,7 +110,7 @@ fn no_lines() -> [Line; 9]
 }
 
 // A reader keeps the text and the next line's number together.
-#[derive(Drop)]
+#[derive(Clone, Copy)]
 struct Reader<'a> {
     text: &'a [u8],
     line: usize,

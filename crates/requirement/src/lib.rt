@@ -8,7 +8,7 @@ ghost use Rattle.requirement.specs.Requirement.{RowFits, row_from, table_of, not
 use terms::{DirectionTerms, Quantities};
 
 // A period's requirement at its start and end, in kWh; flag: unavailability is allowed.
-#[derive(Drop)]
+#[derive(Clone, Copy)]
 pub struct Row {
     pub left: u64,
     pub sched: u64,
@@ -19,14 +19,14 @@ pub struct Row {
 }
 
 // Periods 1 to 8, and the next start after them.
-#[derive(Drop)]
+#[derive(Clone, Copy)]
 pub struct Table {
     pub rows: [Row; 8],
     pub start9: i64,
 }
 
 // What a period begins with.
-#[derive(Drop)]
+#[derive(Clone, Copy)]
 pub struct Next {
     pub left: u64,
     pub back: u64,
@@ -34,7 +34,7 @@ pub struct Next {
 }
 
 // Whether the entries of some periods are those of their bounds, and what the next period begins with.
-#[derive(Drop)]
+#[derive(Clone, Copy)]
 pub struct Matched {
     pub same: bool,
     pub next: Next,

@@ -5,13 +5,13 @@ ghost use Rattle.std.specs.Prelude.{◌≡◌, ◌<◌, ◌^◌};
 ghost use Rattle.common.specs.Answer.{number_of};
 ghost use Rattle.terms.specs.Terms.{direction_terms, above1000, power, limit_broken, limits_broken, answer_of, terms_check};
 
-#[derive(Drop)]
+#[derive(Clone, Copy)]
 pub struct Containment {}
 
-#[derive(Drop)]
+#[derive(Clone, Copy)]
 pub struct Moderation {}
 
-#[derive(Drop)]
+#[derive(Clone, Copy)]
 pub struct Regulation {}
 
 // Per MW: response energy volume and recovery volume in kWh, reserved power in kW.
@@ -40,7 +40,7 @@ impl Regulation {
 }
 
 // A direction's quantity for each service, in MW.
-#[derive(Drop)]
+#[derive(Clone, Copy)]
 pub struct Quantities {
     pub dc: u32,
     pub dm: u32,
@@ -48,7 +48,7 @@ pub struct Quantities {
 }
 
 // The sums over a direction's services: MW, kWh, kWh, kW.
-#[derive(Drop)]
+#[derive(Clone, Copy)]
 pub struct DirectionTerms {
     pub quantity: u64,
     pub rev: u64,
@@ -75,7 +75,7 @@ impl DirectionTerms {
 }
 
 // Both directions, and the power limits in kW.
-#[derive(Drop)]
+#[derive(Clone, Copy)]
 pub struct Terms {
     pub low: Quantities,
     pub high: Quantities,
@@ -83,7 +83,7 @@ pub struct Terms {
     pub import_limit: i64,
 }
 
-#[derive(Drop)]
+#[derive(Clone, Copy)]
 pub enum TermsAnswer {
     Good,
     // A direction is above 1,000 MW.

@@ -9,7 +9,7 @@ ghost use Rattle.columns.specs.Line.{number_line};
 ghost use Rattle.test_day.specs.Day.{next_seed, reading, filling, filled, answer_of};
 ghost use Rattle.test_day.specs.Page.{line_of, printed};
 
-#[derive(Drop)]
+#[derive(Clone, Copy)]
 pub enum FillAnswer {
     // The last seed.
     Last(u32),
@@ -18,7 +18,7 @@ pub enum FillAnswer {
 }
 
 // What a text says.
-#[derive(Drop)]
+#[derive(Clone, Copy)]
 enum SeedLine {
     Seed(u64),
     Malformed,
