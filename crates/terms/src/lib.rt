@@ -123,6 +123,7 @@ pub fn limits_broken(t: Terms) -> bool
 }
 
 // The terms check: refusal 1, then 2.
+#[tactic(auto, unfolding(crate::specs::Terms::terms_check))]
 pub fn check(t: Terms) -> TermsAnswer
     ensures { answer_of result ≡ terms_check t }
 {
