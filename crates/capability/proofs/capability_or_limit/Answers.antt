@@ -11,8 +11,7 @@ use Rattle.capability.specs.declared.Points.{Points}
 use Rattle.capability.specs.Capability.{limits_rule, direction_rule, points_rule}
 use Rattle.capability.specs.Quantity.{capability_or_limit, data_rule}
 use Rattle.capability.proofs.Laws.{room_most}
-use Rattle.capability.proofs.capability_or_limit.Statement.{statement}
-use Rattle.capability.proofs.capability_or_limit.Tie as tie
+use Rattle.capability.proofs.capability_or_limit.Goals as goal
 
 rules : (direction : ℕ) (l : Limits) (ps : Points) (limit : ℕ) → data_rule direction l ps limit ≡ true → (limits_rule l ≡ true) × (points_rule ps ≡ true)
 unfolding data_rule
@@ -21,29 +20,18 @@ rules direction l ps limit h =
     let to-limits = both_true (direction_rule direction && limits_rule l) (points_rule ps) to-points.0 in
     ((both_true (direction_rule direction) (limits_rule l) to-limits.0).1, to-limits.1)
 
-room-of-requires : tie.Need-room-of-requires
-room-of-requires c κs = search rules
-
-cast-room : tie.Need-overflow-cast-room
-cast-room c =
-    let s = c.before in
+pub overflow_cast-room : goal.overflow_cast-room
+overflow_cast-room c =
+    let s = c in
     let a = s.args in
     omega (arith, room_most a.l (rules a.direction a.l a.ps a.limit s.requires).0 a.direction)
 
-capability-of-requires : tie.Need-capability-of-requires
-capability-of-requires c κs =
-    let s = c.before in
+pub capability_of-requires : goal.capability_of-requires
+capability_of-requires c =
+    let s = c in
     let a = s.args in
     (rules a.direction a.l a.ps a.limit s.requires).1
 
-smaller-requires : tie.Need-smaller-requires
-smaller-requires c κs = search rules
-
-returns : tie.Need-returns
+pub returns : goal.returns
 unfolding capability_or_limit
-returns c = let p = c.before in rw (c.smaller.ensures, p.capability-of.ensures, p.before.room_of.ensures)
-
-pub capability-or-limit-spec : {M : Type 1} → statement M
-capability-or-limit-spec =
-    tie.close
-    (tie.spec room-of-requires cast-room capability-of-requires smaller-requires returns)
+returns c = let p = c in rw (c.smaller.ensures, p.capability_of.ensures, p.room_of-room.ensures)

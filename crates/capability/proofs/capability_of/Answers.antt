@@ -1,0 +1,37 @@
+-- `capability::capability_of` meets its contract. The loop's invariant is `Reached`. Assumes nothing.
+use mathlib.Core.Path.{◌≡◌, sym, ap, ◌∙◌}
+use Prim.Native.Nat.{◌-◌}
+use native.Mathlib.Omega.{arith}
+use lib.ListN.{length, length-map}
+use Rattle.common.specs.Fraction.{rounded_down}
+use Rattle.capability.specs.Capability.{capability_of}
+use Rattle.capability.proofs.Segments.{begin, here, farther-on, last-two}
+use Rattle.capability.proofs.capability_of.Goals as goal
+
+long : (s : goal.Start) → length s.args.ps.points ≡ 5
+long s = sym (length-map s.args.ps.points _) ∙ s.well-formed.0.1.1.1.0.1.0.1
+
+pub loop-i-init : goal.loop-i-init
+loop-i-init c =
+    let s = c in
+    begin s.args.ps s.args.room s.requires (long s)
+
+pub bounds-points-i : goal.bounds-points-i
+bounds-points-i c = omega arith
+
+pub returns-then-room-q : goal.returns-then-room-q
+unfolding capability_of
+returns-then-room-q c =
+    let t = c in
+    c.on_line.ensures ∙ sym (ap rounded_down (here _ _ _ t.loop-i.invariant t.loop-i-test.true c.if-room-q.true))
+
+pub loop-i-preserved : goal.loop-i-preserved
+loop-i-preserved c =
+    let t = c in
+    farther-on _ _ _ t.loop-i.invariant t.loop-i-test.true c.if-room-q.false
+
+pub returns : goal.returns
+unfolding capability_of
+returns c =
+    let l = c in
+    c.on_line-2.ensures ∙ sym (ap rounded_down (last-two _ _ _ l.loop-i.invariant c.loop-i-test.false))

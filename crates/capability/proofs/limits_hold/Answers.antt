@@ -1,0 +1,8 @@
+-- `capability::limits_hold` meets its contract. Assumes nothing.
+use borrow.Author.Rules.{rules}
+use Rattle.capability.specs.Capability.{limits_rule}
+use Rattle.capability.proofs.limits_hold.Goals as goal
+
+pub returns : goal.returns
+unfolding limits_rule
+returns c = let s = c in rw s.each_in_range.ensures (search rules)
