@@ -148,6 +148,7 @@ fn pending_by(time: u64, p: Pending, s: State) -> State
     s
 }
 
+#[tactic(auto, unfolding(crate::specs::Instructions::due_by))]
 fn due_by(time: u64, s: State) -> State
     ensures { result ≡ due_by time s }
 {

@@ -1,8 +1,0 @@
--- `instructions::acted_state` meets its contract. Assumes nothing.
-use Rattle.instructions.proofs.acted_state.Goals as goal
-
-pub returns-in-Start : goal.returns-in-Start
-returns-in-Start c = rw c.action-1.given.1
-
-pub returns-in-Cease : goal.returns-in-Cease
-returns-in-Cease c = rw c.action-in-Cease-1.given.1
