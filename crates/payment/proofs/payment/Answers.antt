@@ -2,7 +2,7 @@
 use mathlib.Core.Path.{◌≡◌, sym, ◌∙◌}
 use mathlib.Core.Bool.{true}
 use mathlib.Core.List.{map}
-use Prim.Native.Nat.{◌*◌, ◌-◌, ◌≤◌}
+use Prim.Native.Nat.{ℕ, ◌*◌, ◌-◌, ◌≤◌, max}
 use native.Mathlib.Nat.{mul-le-mul}
 use native.Mathlib.Omega.{arith}
 use mir.Facts.{to_z-of_z}
@@ -14,87 +14,65 @@ use Rattle.payment.proofs.Amounts.{amount-is}
 use Rattle.payment.proofs.Answers.{kept_rule, broken-rule, work-most, lost-most, price-over, adjustment-over, k-over, f-over, pieces-over, paid}
 use Rattle.payment.proofs.payment.Goals as goal
 
--- past the tests of the figures
-module _ (g : goal.Else-f-gt1000) where
-  abbrev start : goal.Start
-  start = g
-
-  price-in : start.args.price ≤ 10000
-  price-in = g.if-price-gt10000.left
-
-  adjustment-in : start.args.adjustment ≤ 10000
-  adjustment-in = g.if-adjustment-gt10000.left
-
-  k-in : start.args.k ≤ 1000
-  k-in = g.if-k-gt1000.left
-
-  f-in : start.args.f ≤ 1000
-  f-in = g.if-f-gt1000.left
-
--- past the test of the pieces too
-module _ (t : goal.In-Work) where
-  abbrev measured : goal.After-measure
-  measured = t
-
-  abbrev figures : goal.Else-f-gt1000
-  figures = measured.before
-
-  abbrev pieces : Pieces
-  pieces = (start figures).args.pieces
-
-  -- they keep their rule, and the work is that of all
-  rule : (pieces_rule pieces ≡ true) × (t.work-1.given.0.0 ≡ sum (map work (pieces_of pieces)))
-  rule = kept_rule _ (sym measured.measure.ensures ∙ t.work-1.given.1)
-
-  factors : (start figures).args.k * (start figures).args.f ≤ 1000000
-  factors = mul-le-mul (k-in figures) (f-in figures)
-
-lost : (c : goal.After-greater-most) → let a = (start (figures c)).args in c.greater-most.result * (1000000 - a.k * a.f) ≤ 10000000000
-lost c =
-    let g = figures c in
-    rw c.greater-most.ensures (lost-most _ _ _ _ (price-in g) (adjustment-in g))
-
 pub returns-then-price-gt10000 : goal.returns-then-price-gt10000
-returns-then-price-gt10000 c = price-over _ _ _ _ _ c.if-price-gt10000.true
+returns-then-price-gt10000 c =
+    let a = c.args in
+    let r = price-over a.price a.adjustment a.k a.f a.pieces c.if-price-gt10000.true in
+    record { answer = r.0; cause = r.1 }
 
 pub returns-then-adjustment-gt10000 : goal.returns-then-adjustment-gt10000
-returns-then-adjustment-gt10000 c = adjustment-over _ _ _ _ _ c.if-price-gt10000.false c.if-adjustment-gt10000.true
+returns-then-adjustment-gt10000 c =
+    let a = c.args in
+    let r = adjustment-over a.price a.adjustment a.k a.f a.pieces c.if-price-gt10000.false c.if-adjustment-gt10000.true in
+    record { answer = r.0; cause = r.1 }
 
 pub returns-then-k-gt1000 : goal.returns-then-k-gt1000
-returns-then-k-gt1000 c = k-over _ _ _ _ _ c.if-price-gt10000.false c.if-adjustment-gt10000.false c.if-k-gt1000.true
+returns-then-k-gt1000 c =
+    let a = c.args in
+    let r = k-over a.price a.adjustment a.k a.f a.pieces c.if-price-gt10000.false c.if-adjustment-gt10000.false c.if-k-gt1000.true in
+    record { answer = r.0; cause = r.1 }
 
 pub returns-then-f-gt1000 : goal.returns-then-f-gt1000
 returns-then-f-gt1000 c =
-    let k = c in
-    f-over _ _ _ _ _ k.if-price-gt10000.false k.if-adjustment-gt10000.false k.if-k-gt1000.false c.if-f-gt1000.true
-
-pub enum_told-1 : goal.enum_told-1
-enum_told-1 c = search rules
+    let a = c.args in
+    let r = f-over a.price a.adjustment a.k a.f a.pieces c.if-price-gt10000.false c.if-adjustment-gt10000.false c.if-k-gt1000.false c.if-f-gt1000.true in
+    record { answer = r.0; cause = r.1 }
 
 pub returns-in_default : goal.returns-in_default
 returns-in_default c =
-    let m = c in
-    let g = m in
-    pieces-over _ _ _ _ _ (price-in g) (adjustment-in g) (k-in g) (f-in g) (broken-rule _ (sym m.measure.ensures ∙ c.enum_told-1.given.1))
+    let a = c.args in
+    let r = pieces-over a.price a.adjustment a.k a.f a.pieces c.if-price-gt10000.false c.if-adjustment-gt10000.false c.if-k-gt1000.false c.if-f-gt1000.false
+    (broken-rule a.pieces (sym c.measure.ensures ∙ c.in_default.is)) in
+    record { answer = r.0; cause = r.1 }
 
 pub overflow_mul-short : goal.overflow_mul-short
-overflow_mul-short c = omega (arith, factors c)
+overflow_mul-short c = omega (arith, mul-le-mul c.if-k-gt1000.false c.if-f-gt1000.false)
 
 pub overflow_sub-short : goal.overflow_sub-short
-overflow_sub-short c = factors c
+overflow_sub-short c = omega (arith, mul-le-mul c.if-k-gt1000.false c.if-f-gt1000.false)
+
+-- what goes from a kW and second fits its bound
+lost : (price adjustment k f most : ℕ) → price ≤ 10000 → adjustment ≤ 10000 → most ≡ max price adjustment → most * (1000000 - k * f) ≤ 10000000000
+lost price adjustment k f most p a e = rw e (lost-most price adjustment k f p a)
 
 pub overflow_mul-most : goal.overflow_mul-most
-overflow_mul-most c = omega (arith, lost c)
+overflow_mul-most c =
+    let a = c.args in
+    omega (arith, lost a.price a.adjustment a.k a.f _ c.if-price-gt10000.false c.if-adjustment-gt10000.false c.greater-most.ensures)
 
 pub pence-requires : goal.pence-requires
 pence-requires c =
-    let r = rule c in
-    (omega (arith, price-in (figures c)), lost c, omega (arith, r.1, work-most _ r.0))
+    let a = c.args in
+    let r = kept_rule a.pieces (sym c.measure.ensures ∙ c.in-Work.is) in
+    (omega (arith, c.if-price-gt10000.false), lost a.price a.adjustment a.k a.f _ c.if-price-gt10000.false c.if-adjustment-gt10000.false c.greater-most.ensures, omega (arith, r.1, work-most a.pieces r.0))
 
 pub returns : goal.returns
 returns c =
-    let t = c in
-    let g = figures t in
-    let r = rule t in
-    rw (to_z-of_z {z = c.pence.result} (sfits_of c.pence.type_inv), c.pence.ensures, c.greater-most.ensures, r.1)
-    (paid _ _ _ _ _ (price-in g) (adjustment-in g) (k-in g) (f-in g) r.0 (amount-is _ _ _ _ (k-in g) (f-in g) _))
+    let a = c.args in
+    let r = kept_rule a.pieces (sym c.measure.ensures ∙ c.in-Work.is) in
+    let p = paid a.price a.adjustment a.k a.f a.pieces c.if-price-gt10000.false c.if-adjustment-gt10000.false c.if-k-gt1000.false c.if-f-gt1000.false r.0
+    (amount-is a.price a.adjustment a.k a.f c.if-k-gt1000.false c.if-f-gt1000.false (pieces_of a.pieces)) in
+    record {
+      answer = rw (to_z-of_z {z = c.pence.result} (record { sfits = c.pence.type_inv }), c.pence.ensures, c.greater-most.ensures, r.1) p.0;
+      cause = p.1;
+    }
