@@ -240,6 +240,7 @@ pub fn room(direction: u32, limits: Limits) -> CapabilityAnswer
 }
 
 // The response capability at a room of 0 to 4,000,000.
+#[tactic(auto, unfolding(crate::specs::Capability::capability_answer))]
 pub fn capability(points: Points, room: u32) -> CapabilityAnswer
     ensures { answer_of result ≡ capability_answer points room }
 {
@@ -298,6 +299,7 @@ fn no_quantity(direction: u32, available: u32, e: Energies) -> bool
 }
 
 // The smaller of capability and submitted limit for a unit that is available and has energy in that direction, else 0.
+#[tactic(auto, unfolding(crate::specs::Quantity::quantity_answer, crate::specs::Quantity::quantity_of))]
 pub fn quantity(
     direction: u32,
     available: u32,

@@ -2,19 +2,17 @@
 use mathlib.Core.Path.{◌≡◌, sym, ap, ◌∙◌}
 use Prim.Native.Nat.{◌-◌}
 use native.Mathlib.Omega.{arith}
-use lib.ListN.{length, length-map}
+use lib.ListN.{length}
+use borrow.Author.Rules.{rules}
 use Rattle.common.specs.Fraction.{rounded_down}
 use Rattle.capability.specs.Capability.{capability_of}
 use Rattle.capability.proofs.Segments.{begin, here, farther-on, last-two}
 use Rattle.capability.proofs.capability_of.Goals as goal
 
-long : (s : goal.Start) → length s.args.ps.points ≡ 5
-long s = sym (length-map s.args.ps.points _) ∙ s.well-formed.0.1.1.1.0.1.0.1
-
 pub loop-i-init : goal.loop-i-init
 loop-i-init c =
-    let s = c in
-    begin s.args.ps s.args.room s.requires (long s)
+    let long : length c.args.ps.points ≡ 5 = search rules in
+    begin c.args.ps c.args.room c.requires long
 
 pub bounds-points-i : goal.bounds-points-i
 bounds-points-i c = omega arith

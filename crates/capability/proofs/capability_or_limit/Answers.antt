@@ -13,9 +13,9 @@ use Rattle.capability.specs.Quantity.{capability_or_limit, data_rule}
 use Rattle.capability.proofs.Laws.{room_most}
 use Rattle.capability.proofs.capability_or_limit.Goals as goal
 
-rules : (direction : ℕ) (l : Limits) (ps : Points) (limit : ℕ) → data_rule direction l ps limit ≡ true → (limits_rule l ≡ true) × (points_rule ps ≡ true)
+parts : (direction : ℕ) (l : Limits) (ps : Points) (limit : ℕ) → data_rule direction l ps limit ≡ true → (limits_rule l ≡ true) × (points_rule ps ≡ true)
 unfolding data_rule
-rules direction l ps limit h =
+parts direction l ps limit h =
     let to-points = both_true (direction_rule direction && limits_rule l && points_rule ps) (leb limit 4000000) h in
     let to-limits = both_true (direction_rule direction && limits_rule l) (points_rule ps) to-points.0 in
     ((both_true (direction_rule direction) (limits_rule l) to-limits.0).1, to-limits.1)
@@ -24,13 +24,13 @@ pub overflow_cast-room : goal.overflow_cast-room
 overflow_cast-room c =
     let s = c in
     let a = s.args in
-    omega (arith, room_most a.l (rules a.direction a.l a.ps a.limit s.requires).0 a.direction)
+    omega (arith, room_most a.l (parts a.direction a.l a.ps a.limit s.requires).0 a.direction)
 
 pub capability_of-requires : goal.capability_of-requires
 capability_of-requires c =
     let s = c in
     let a = s.args in
-    (rules a.direction a.l a.ps a.limit s.requires).1
+    (parts a.direction a.l a.ps a.limit s.requires).1
 
 pub returns : goal.returns
 unfolding capability_or_limit
