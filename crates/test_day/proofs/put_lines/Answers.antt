@@ -1,5 +1,4 @@
 -- `test_day::put_lines` meets its contract. The loop's invariant is `Written`. Assumes nothing.
-use Prim.Native.Nat.{◌-◌}
 use native.Mathlib.Omega.{arith}
 use Rattle.test_day.proofs.Printing.{no_room, begin, long, fits, step, done}
 use Rattle.test_day.proofs.put_lines.Goals as goal
