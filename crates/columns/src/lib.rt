@@ -17,6 +17,7 @@ pub enum Field {
 // ---- reading
 
 // One column more. Eight columns have a number below 100,000,000, so nine fit a u32.
+#[tactic(auto, unfolding(crate::specs::Number::next))]
 fn next(f: Field, b: u8) -> Field
     requires { Number.value f < 100000000 }
     ensures { result ≡ Number.next f b }

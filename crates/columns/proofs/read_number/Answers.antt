@@ -1,5 +1,4 @@
 -- `columns::read_number` meets its contract. The loop's invariant is `Read`. Assumes nothing.
-use Prim.Native.Nat.{◌-◌}
 use native.Mathlib.Omega.{arith}
 use lib.ListN.{length-take}
 use Rattle.columns.proofs.Reading.{begin, value-small, step, done}
