@@ -36,11 +36,11 @@ tested last next r s e f = rw (e, f)
 pub returns-then-not-point_in_range-rises : goal.returns-then-not-point_in_range-rises
 returns-then-not-point_in_range-rises c =
     sym (counted c.args.ps c.if-not-count.false
-    ∙ stops _ _ c.loop-i.invariant c.loop-i-test.true (sym (tested _ _ _ _ c.point_in_range.ensures c.rises.ensures) ∙ c.if-not-point_in_range-rises.true))
+    ∙ stops _ _ c.loop-i.invariant c.loop-i-test.true (sym (tested c.loop-i.last (at c.args.ps.points c.loop-i.i) _ _ c.point_in_range.ensures c.rises.ensures) ∙ c.if-not-point_in_range-rises.true))
 
 pub loop-i-preserved : goal.loop-i-preserved
 loop-i-preserved c =
-    goes_on _ _ c.loop-i.invariant c.loop-i-test.true (sym (tested _ _ _ _ c.point_in_range.ensures c.rises.ensures) ∙ c.if-not-point_in_range-rises.false)
+    goes_on _ _ c.loop-i.invariant c.loop-i-test.true (sym (tested c.loop-i.last (at c.args.ps.points c.loop-i.i) _ _ c.point_in_range.ensures c.rises.ensures) ∙ c.if-not-point_in_range-rises.false)
 
 pub returns : goal.returns
 returns c =
