@@ -1,0 +1,22 @@
+-- `energy::containment::interpolated_table` meets its contract: what was added to a table of zeros keeps the rule. Assumes nothing.
+use native.Mathlib.Omega.{arith}
+use borrow.Author.Rules.{rules}
+use Rattle.energy.proofs.ByTable.{interpolated}
+use Rattle.energy.proofs.StockCurve.{rule}
+use Rattle.energy.proofs.Tables.{zeros-at}
+use Rattle.energy.proofs.containment.interpolated_table.Goals as goal
+
+pub fill_by_steps-requires : goal.fill_by_steps-requires
+fill_by_steps-requires c =
+    record {
+      factor-most = omega arith;
+      rule = rw c.containment_curve.ensures rule;
+      there = search rules;
+      room = λ d. omega (arith, zeros-at 501 d);
+    }
+
+pub returns : goal.returns
+returns c =
+    let g = c in
+    interpolated g.fill_by_steps.new.1.1.1.0 g.fill_by_steps.auto.1.1.1.0
+    (rw g.containment_curve.ensures at g.fill_by_steps.ensures)
