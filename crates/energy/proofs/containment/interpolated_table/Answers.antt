@@ -17,6 +17,4 @@ fill_by_steps-requires c =
 
 pub returns : goal.returns
 returns c =
-    let g = c in
-    interpolated g.fill_by_steps.new.1.1.1.0 g.fill_by_steps.auto.1.1.1.0
-    (rw g.containment_curve.ensures at g.fill_by_steps.ensures)
+    interpolated c.fill_by_steps.new.table c.fill_by_steps.auto.table (rw c.containment_curve.ensures at c.fill_by_steps.ensures)

