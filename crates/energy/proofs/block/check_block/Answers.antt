@@ -1,13 +1,12 @@
 -- `energy::block::check_block` meets its contract. The loops' invariants are `Periods` and `Places`. Assumes nothing.
 use mathlib.Core.Path.{◌≡◌, sym, ◌∙◌}
-use mathlib.Core.Bool.{true, false}
-use Prim.Native.Nat.{◌≤◌, ◌<◌}
+use mathlib.Core.Bool.{false}
+use Prim.Native.Nat.{◌≤◌}
 use native.Mathlib.Omega.{arith}
 use lib.ListN.{length, get_or}
 use Rattle.energy.specs.Period.{is_reading}
-use Rattle.energy.specs.Rate.{is_block_count}
-use Rattle.energy.proofs.Blocks.{wrong-count, within, all-good, found, further}
-use Rattle.energy.proofs.Rates.{Eighths, eighths}
+use Rattle.energy.proofs.Blocks.{wrong-count, all-good, found}
+use Rattle.energy.proofs.Rates.{eighths}
 use Rattle.energy.proofs.block.check_block.Goals as goal
 use Rattle.energy.proofs.block.check_block.Goals.{else-periods-test, then-periods-test+then-loop-place-test+then-not-is_reading}
 

@@ -1,15 +1,11 @@
 -- `energy::period::from_readings` meets its contract: the largest deviations say whether every reading is good. Assumes nothing.
-use mathlib.Core.Path.{◌≡◌, sym, ◌∙◌}
-use mathlib.Core.Bool.{◌||◌}
-use mathlib.Core.List.{[], ◌∷◌}
-use Prim.Native.Nat.{◌*◌, ◌≤◌}
+use mathlib.Core.Path.{sym, ◌∙◌}
 use native.Mathlib.Omega.{arith}
 use borrow.Author.Tests.{ltb-false}
 use lib.Dec.{ltb}
 use lib.ListN.{length}
-use Rattle.common.specs.Answer.{cause, checked}
 use Rattle.common.proofs.Tests.{neither}
-use Rattle.energy.specs.Period.{bound, bounds_of, from_readings}
+use Rattle.energy.specs.Period.{bound}
 use Rattle.energy.proofs.Rates.{period-range}
 use Rattle.energy.proofs.Sums.{sums-most, wrong-count, by_tests}
 use Rattle.energy.proofs.period.from_readings.Goals as goal

@@ -1,5 +1,4 @@
 -- `energy::table::largest_deviations` meets its contract. The loop's invariant is `SoFar`. Assumes nothing.
-use Prim.Native.Nat.{◌-◌}
 use native.Mathlib.Omega.{arith}
 use Rattle.energy.proofs.Largest.{begin, step, done}
 use Rattle.energy.proofs.table.largest_deviations.Goals as goal

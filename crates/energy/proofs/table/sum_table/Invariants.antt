@@ -1,5 +1,4 @@
 -- What the loops of `sum_table` keep, and their measures. Assumes nothing.
-use Prim.Native.Nat.{◌-◌}
 use Rattle.energy.proofs.Backward.{Running}
 use Rattle.energy.proofs.table.sum_table.Given as goal
 
