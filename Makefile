@@ -2,8 +2,7 @@
 .PHONY: report test
 
 report:
-	@mkdir -p target
-	@rt check soereport >target/report.log 2>&1 || { cat target/report.log; exit 1; }
+	@tools/build soereport
 	@target/bin/soereport < crates/soereport/stdin
 
 test:

@@ -6,7 +6,7 @@ set -eu
 cd "$(dirname "$0")/.."
 build="cc -std=c99 -Wall -Wextra -Werror -Iinclude"
 
-rt staticlib host
+tools/build host
 $build compare/host.c target/staticlib/libhost.a -o target/staticlib/host
 target/staticlib/host
 
