@@ -1,4 +1,4 @@
-/* State of energy: the functions that a host written in C calls. They are in target/staticlib/libhost.a, which `rt staticlib host`
+/* State of energy: the functions that a host written in C calls. They are in target/staticlib/libhost.a, which `tools/build host`
  * makes; each has a proved contract in crates/host/src/lib.rt.
  *
  * Returned number, the same for every function: 0 or more is the answer, -n is refusal n. The refusals are checked in the order
