@@ -3,31 +3,21 @@
 #![tactic(auto)]
 
 use capability::{CapabilityAnswer, Energies, Limits, Point, Points, QuantityAnswer};
-use libc::STDOUT_FILENO;
+use std::io;
 
 // A number right-justified in nine columns.
-fn write_number(n: u64) {
-    let blanks = [b' '; 9];
-    let mut digits = [0u8; 20];
-    let count = io::decimal(n, &mut digits);
-    if count <= 9 {
-        io::write_all(STDOUT_FILENO, &blanks[count..]);
-    }
-    io::write_all(STDOUT_FILENO, &digits[..count]);
+fn write_number(rt: &impl Print, n: u64) -> io::Result<()> {
+    print!(rt; "{n:>9}")
 }
 
-fn write_refused() {
-    io::write_all(STDOUT_FILENO, b"  refused");
+fn write_refused(rt: &impl Print) -> io::Result<()> {
+    rt.write_all(b"  refused")
 }
 
-fn write_answer(answer: CapabilityAnswer) {
+fn write_answer(rt: &impl Print, answer: CapabilityAnswer) -> io::Result<()> {
     match answer {
-        CapabilityAnswer::Power(kw) => {
-            write_number(kw);
-        }
-        CapabilityAnswer::Data => {
-            write_refused();
-        }
+        CapabilityAnswer::Power(kw) => write_number(rt, kw),
+        CapabilityAnswer::Data => write_refused(rt),
     }
 }
 
@@ -46,70 +36,72 @@ fn point(room: u32, capability: u32) -> Point {
 }
 
 // With a limit that no capability of the examples reaches.
-fn write_quantity(direction: u32, available: u32, offer: u32, bid: u32, l: Limits, points: Points) {
+fn write_quantity(
+    rt: &impl Print,
+    direction: u32,
+    available: u32,
+    offer: u32,
+    bid: u32,
+    l: Limits,
+    points: Points,
+) -> io::Result<()> {
     let energies = Energies { offer, bid };
     let answer = capability::quantity(direction, available, energies, l, points, 4_000_000);
     match answer {
-        QuantityAnswer::Quantity(kw) => {
-            write_number(kw);
-        }
-        QuantityAnswer::Data => {
-            write_refused();
-        }
-        QuantityAnswer::Energy => {
-            write_refused();
-        }
+        QuantityAnswer::Quantity(kw) => write_number(rt, kw),
+        QuantityAnswer::Data => write_refused(rt),
+        QuantityAnswer::Energy => write_refused(rt),
     }
 }
 
 // With energy for offers and for bids, with none for offers, with none for bids, and of a unit that is not available.
-fn write_quantities(direction: u32, l: Limits, points: Points) {
-    write_quantity(direction, 1, 1, 1, l, points);
-    write_quantity(direction, 1, 0, 1, l, points);
-    write_quantity(direction, 1, 1, 0, l, points);
-    write_quantity(direction, 0, 1, 1, l, points);
+fn write_quantities(rt: &impl Print, direction: u32, l: Limits, points: Points) -> io::Result<()> {
+    write_quantity(rt, direction, 1, 1, 1, l, points)?;
+    write_quantity(rt, direction, 1, 0, 1, l, points)?;
+    write_quantity(rt, direction, 1, 1, 0, l, points)?;
+    write_quantity(rt, direction, 0, 1, 1, l, points)
 }
 
 // Both rooms, and the quantities low and high of a unit whose capability is its room.
-fn write_rooms(l: Limits) {
+fn write_rooms(rt: &impl Print, l: Limits) -> io::Result<()> {
     let blank = point(0, 0);
     let points = [blank, point(4_000_000, 4_000_000), blank, blank, blank];
     let equal = Points { count: 2, points };
-    write_answer(capability::room(1, l));
-    write_answer(capability::room(2, l));
-    write_quantities(1, l, equal);
-    write_quantities(2, l, equal);
-    io::write_all(STDOUT_FILENO, b"\n");
+    write_answer(rt, capability::room(1, l))?;
+    write_answer(rt, capability::room(2, l))?;
+    write_quantities(rt, 1, l, equal)?;
+    write_quantities(rt, 2, l, equal)?;
+    rt.write_all(b"\n")
 }
 
-fn write_capability(direction: u32, l: Limits, points: Points) {
+fn write_capability(rt: &impl Print, direction: u32, l: Limits, points: Points) -> io::Result<()> {
     let room = capability::room(direction, l);
-    write_answer(room);
+    write_answer(rt, room)?;
     match room {
         CapabilityAnswer::Power(kw) => {
             if kw <= 4_000_000 {
-                write_answer(capability::capability(points, kw as u32));
+                write_answer(rt, capability::capability(points, kw as u32))?;
             }
         }
         CapabilityAnswer::Data => {}
     }
-    write_quantities(direction, l, points);
-    io::write_all(STDOUT_FILENO, b"\n");
+    write_quantities(rt, direction, l, points)?;
+    rt.write_all(b"\n")
 }
 
 // The text gives the rooms, and that the unit is at SEL in the second line and at SIL in the last. Its figures are not
 // reproduced: the other levels are chosen so that the rooms come out. MIL is higher in the third line, since its rooms of 20
 // and around 50 MW do not fit the limits of the first two.
-fn appendix_1() {
-    write_rooms(limits(-50_000, 0, 0, 50_000, -20_000));
-    write_rooms(limits(-50_000, 0, 0, 50_000, 0));
-    write_rooms(limits(-20_000, 0, 0, 50_000, 30_000));
-    write_rooms(limits(-50_000, -20_000, 10_000, 50_000, 30_000));
-    write_rooms(limits(-50_000, -20_000, 10_000, 50_000, -20_000));
+fn appendix_1(rt: &impl Print) -> io::Result<()> {
+    write_rooms(rt, limits(-50_000, 0, 0, 50_000, -20_000))?;
+    write_rooms(rt, limits(-50_000, 0, 0, 50_000, 0))?;
+    write_rooms(rt, limits(-20_000, 0, 0, 50_000, 30_000))?;
+    write_rooms(rt, limits(-50_000, -20_000, 10_000, 50_000, 30_000))?;
+    write_rooms(rt, limits(-50_000, -20_000, 10_000, 50_000, -20_000))
 }
 
 // MIL and SIL are 0 where the text gives none.
-fn low_frequency() {
+fn low_frequency(rt: &impl Print) -> io::Result<()> {
     let blank = point(0, 0);
     let points = [
         blank,
@@ -119,18 +111,19 @@ fn low_frequency() {
         blank,
     ];
     let curve = Points { count: 4, points };
-    write_capability(1, limits(0, 0, 0, 100_000, 50_000), curve);
-    write_capability(1, limits(0, 0, 0, 100_000, 70_000), curve);
+    write_capability(rt, 1, limits(0, 0, 0, 100_000, 50_000), curve)?;
+    write_capability(rt, 1, limits(0, 0, 0, 100_000, 70_000), curve)?;
     write_capability(
+        rt,
         1,
         limits(-100_000, -10_000, 10_000, 100_000, -50_000),
         curve,
-    );
-    write_capability(1, limits(-100_000, 0, 0, 100_000, -50_000), curve);
+    )?;
+    write_capability(rt, 1, limits(-100_000, 0, 0, 100_000, -50_000), curve)
 }
 
 // The last line has the 100 MW of the rule; 003 prints 80.
-fn high_frequency() {
+fn high_frequency(rt: &impl Print) -> io::Result<()> {
     let blank = point(0, 0);
     let points = [
         blank,
@@ -140,14 +133,19 @@ fn high_frequency() {
         blank,
     ];
     let curve = Points { count: 3, points };
-    write_capability(2, limits(0, 0, 10_000, 100_000, 40_000), curve);
-    write_capability(2, limits(-50_000, 0, 0, 50_000, 15_000), curve);
-    write_capability(2, limits(-50_000, -10_000, 10_000, 50_000, -26_000), curve);
-    write_capability(2, limits(-100_000, 0, 0, 100_000, 70_000), curve);
+    write_capability(rt, 2, limits(0, 0, 10_000, 100_000, 40_000), curve)?;
+    write_capability(rt, 2, limits(-50_000, 0, 0, 50_000, 15_000), curve)?;
+    write_capability(
+        rt,
+        2,
+        limits(-50_000, -10_000, 10_000, 50_000, -26_000),
+        curve,
+    )?;
+    write_capability(rt, 2, limits(-100_000, 0, 0, 100_000, 70_000), curve)
 }
 
-fn main() {
-    appendix_1();
-    low_frequency();
-    high_frequency();
+fn main(rt: HostRuntime) -> io::Result<()> {
+    appendix_1(&rt)?;
+    low_frequency(&rt)?;
+    high_frequency(&rt)
 }

@@ -2,16 +2,17 @@
 #![tactic(auto)]
 
 use energy::containment::interpolated_table;
-use libc::STDOUT_FILENO;
+use std::io;
 
-fn write_number(n: u32) {
+fn write_number(rt: &impl Print, n: u32) -> io::Result<()> {
     let line = columns::number_line(n as u64);
-    io::write_all(STDOUT_FILENO, &line);
+    rt.write_all(&line)
 }
 
-fn main() {
+fn main(rt: HostRuntime) -> io::Result<()> {
     let table = interpolated_table();
     for d in 0..501 {
-        write_number(table[d]);
+        write_number(&rt, table[d])?;
     }
+    Ok(())
 }

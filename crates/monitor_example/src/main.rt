@@ -2,16 +2,16 @@
 // 0 in each period for the high one.
 #![tactic(auto)]
 
-use libc::STDOUT_FILENO;
 use monitor::Row;
+use std::io;
 use terms::Quantities;
 
-fn write_rows(rows: [Row; 8]) {
+fn write_rows(rt: &impl Print, rows: [Row; 8]) -> io::Result<()> {
     let table = report::table_of(rows);
-    io::write_all(STDOUT_FILENO, &table);
+    rt.write_all(&table)
 }
 
-fn main() {
+fn main(rt: HostRuntime) -> io::Result<()> {
     let low = monitor::monitor(
         Quantities {
             dc: 0,
@@ -22,7 +22,7 @@ fn main() {
         [100000, 85000, 72999, 53000, 20000, 0, 6000, 21000],
     );
     let rows = low.rows;
-    write_rows(rows);
+    write_rows(&rt, rows)?;
     let high = monitor::monitor(
         Quantities {
             dc: 40,
@@ -33,5 +33,5 @@ fn main() {
         [0; 8],
     );
     let rows = high.rows;
-    write_rows(rows);
+    write_rows(&rt, rows)
 }

@@ -8,16 +8,16 @@ use energy::block::{BlockCheck, check_block, part};
 use energy::curve::{Curves, containment_curve, regulation_curve};
 use energy::period::{PeriodEnergy, number, period_energy};
 use energy::rate::{BLOCK_AT_TWENTY, BLOCK_AT_TWO, PERIOD_AT_TWENTY, PERIOD_AT_TWO};
-use libc::STDOUT_FILENO;
+use std::io;
 use terms::Quantities;
 
-fn write_number(n: u64) {
+fn write_number(rt: &impl Print, n: u64) -> io::Result<()> {
     let line = columns::number_line(n);
-    io::write_all(STDOUT_FILENO, &line);
+    rt.write_all(&line)
 }
 
 // Both bounds, or a refusal's number.
-fn write_bounds(readings: &[u16]) {
+fn write_bounds(rt: &impl Print, readings: &[u16]) -> io::Result<()> {
     let q = Quantities {
         dc: 0,
         dm: 0,
@@ -31,58 +31,58 @@ fn write_bounds(readings: &[u16]) {
     let answer = period_energy(q, q, curves, readings);
     match answer {
         PeriodEnergy::Bounds { low, high } => {
-            write_number(low as u64);
-            write_number(high as u64);
+            write_number(rt, low as u64)?;
+            write_number(rt, high as u64)
         }
-        _ => write_number(number(answer) as u64),
+        _ => write_number(rt, number(answer) as u64),
     }
 }
 
 // Period and place, or nothing for a good block.
-fn write_check(block: &[u16]) {
+fn write_check(rt: &impl Print, block: &[u16]) -> io::Result<()> {
     match check_block(block) {
-        BlockCheck::Good => {}
+        BlockCheck::Good => Ok(()),
         BlockCheck::Bad { period, place } => {
-            write_number(period as u64);
-            write_number(place as u64);
+            write_number(rt, period as u64)?;
+            write_number(rt, place as u64)
         }
     }
 }
 
-fn write_part(block: &[u16], period: u32) {
+fn write_part(rt: &impl Print, block: &[u16], period: u32) -> io::Result<()> {
     let readings = part(block, period);
     if 0 < readings.len() {
-        write_number(readings[0] as u64);
+        write_number(rt, readings[0] as u64)?;
     }
-    write_number(readings.len() as u64);
+    write_number(rt, readings.len() as u64)
 }
 
 // The first reading of period 2 differs from the others, and the one at place 13 is bad.
-fn at_two() {
+fn at_two(rt: &impl Print) -> io::Result<()> {
     let readings = [49984u16; PERIOD_AT_TWO];
-    write_bounds(&readings);
+    write_bounds(rt, &readings)?;
     let readings = [50000u16; PERIOD_AT_TWO];
-    write_bounds(&readings);
+    write_bounds(rt, &readings)?;
     let mut block = [50000u16; BLOCK_AT_TWO];
     block[PERIOD_AT_TWO] = 49984;
     block[PERIOD_AT_TWO + 12] = 46999;
-    write_check(&block);
-    write_check(&readings);
-    write_part(&block, 2);
+    write_check(rt, &block)?;
+    write_check(rt, &readings)?;
+    write_part(rt, &block, 2)
 }
 
 // The same block at twenty readings a second.
-fn at_twenty() {
+fn at_twenty(rt: &impl Print) -> io::Result<()> {
     let readings = [49984u16; PERIOD_AT_TWENTY];
-    write_bounds(&readings);
+    write_bounds(rt, &readings)?;
     let mut block = [50000u16; BLOCK_AT_TWENTY];
     block[PERIOD_AT_TWENTY] = 49984;
     block[PERIOD_AT_TWENTY + 12] = 46999;
-    write_check(&block);
-    write_part(&block, 2);
+    write_check(rt, &block)?;
+    write_part(rt, &block, 2)
 }
 
-fn main() {
-    at_two();
-    at_twenty();
+fn main(rt: HostRuntime) -> io::Result<()> {
+    at_two(&rt)?;
+    at_twenty(&rt)
 }

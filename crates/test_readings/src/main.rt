@@ -1,12 +1,12 @@
 // A period of test readings for the seed on standard input, one byte past 11 being enough to see that its line is too long.
 #![tactic(auto)]
 
-use libc::{STDIN_FILENO, STDOUT_FILENO};
+use std::io;
 
-fn main() {
+fn main(rt: HostRuntime) -> io::Result<()> {
     let mut input = [0u8; 12];
-    let n = io::read_full(STDIN_FILENO, &mut input);
+    let n = streams::read_full(&mut rt.stdin(), &mut input)?;
     let mut page = [0u8; 36000];
     let count = test_day::print_period(&input[..n], &mut page);
-    io::write_all(STDOUT_FILENO, &page[..count]);
+    rt.write_all(&page[..count])
 }
