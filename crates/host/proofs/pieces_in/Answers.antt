@@ -1,5 +1,4 @@
 -- `host::pieces_in` meets its contract. The loop's invariant is `Filled`, and a turn keeps it by `step`. Assumes nothing.
-use Prim.Native.Nat.{◌-◌}
 use native.Mathlib.Omega.{arith}
 use Rattle.host.proofs.Paying.{begin, step, done}
 use Rattle.host.proofs.pieces_in.Goals as goal
