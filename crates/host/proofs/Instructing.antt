@@ -48,6 +48,13 @@ not-followed bytes Earlier t = refl
 not-followed bytes TooSoon t = refl
 not-followed bytes Unsuited t = refl
 
+-- where the code found no machine
+pub told_none : (a : FollowAnswer) → ((after : Machine) → a ≡ Followed after → ⊥) → OneOf (1 ∷ 2 ∷ 3 ∷ []) (tag_of the_type a)
+told_none (Followed after) h = absurd (h after refl)
+told_none Earlier h = inl refl
+told_none TooSoon h = inr (inl refl)
+told_none Unsuited h = inr (inr refl)
+
 -- its number is that of the machine's answer
 pub number_same : (a : Answer Machine) → number_of (in_bytes a) ≡ number_of a
 number_same (refused n) = refl

@@ -106,3 +106,12 @@ no-amount before answers.AdjustmentPrice t = refl
 no-amount before answers.K t = refl
 no-amount before answers.F t = refl
 no-amount before answers.Pieces t = refl
+
+-- where the code found no amount
+pub told_none : (a : PaymentAnswer) → ((pence : ℤ) → a ≡ answers.Amount pence → ⊥) → OneOf (1 ∷ 2 ∷ 3 ∷ 4 ∷ 5 ∷ []) (tag_of the_type a)
+told_none (answers.Amount pence) h = absurd (h pence refl)
+told_none answers.Price h = inl refl
+told_none answers.AdjustmentPrice h = inr (inl refl)
+told_none answers.K h = inr (inr (inl refl))
+told_none answers.F h = inr (inr (inr (inl refl)))
+told_none answers.Pieces h = inr (inr (inr (inr refl)))

@@ -20,7 +20,7 @@ use Rattle.signed.specs.Sign.{above, below}
 use Rattle.signed.proofs.Whole.{less, one-sided}
 use Rattle.columns.proofs.RoundTrip.{FitsIn, Whole, printed-whole}
 use Rattle.terms.specs.Terms.{Q, REV, ER, above1000}
-use Rattle.requirement.specs.Requirement.{left, sched, back, start, end, row_of}
+use Rattle.requirement.specs.Requirement.{left, sched, back, start, row_of}
 use Rattle.requirement.proofs.Shortfall.{shortfall, left-next, sched-le, back-le, start_is, start-next}
 use Rattle.monitor.specs.declared.Row.{Row}
 use Rattle.monitor.specs.Monitor.{judged_row, rows_of}

@@ -6,7 +6,6 @@ use native.Mathlib.Numerals.{add-one}
 use lib.ListN.{length, set, length-set, replicate}
 use Rattle.common.specs.Periods.{periods_to}
 use Rattle.report.specs.declared.Line.{Line}
-use Rattle.report.specs.declared.Line.TheVariants as Line
 use Rattle.report.specs.Input.{line_at, lines_of, period_lines}
 
 abbrev pub read_to : List ℕ → ℕ → List Line

@@ -4,11 +4,9 @@ use Rattle.common.specs.Lists.{every}
 use Rattle.common.specs.Periods.{periods_to}
 use Rattle.columns.specs.Line.{number_at}
 use Rattle.columns.specs.declared.Field.{Field}
-use Rattle.columns.specs.declared.Field.TheVariants as Field
 use Rattle.terms.specs.Terms.{no_quantities}
 use Rattle.terms.specs.declared.Quantities.{Quantities}
 use Rattle.report.specs.declared.Line.{Line}
-use Rattle.report.specs.declared.Line.TheVariants as Line
 use Rattle.report.specs.declared.Reader.{Reader}
 use Rattle.report.specs.declared.Input.{Input}
 

@@ -46,6 +46,7 @@ struct Input {
 }
 
 // Line 1, with its line feed.
+#[tactic(auto, unfolding(crate::specs::Input::terms_of))]
 fn read_terms(line: &[u8]) -> Line
     requires { length line.now ≡ 37 }
     ensures { result ≡ terms_of line.now }
@@ -69,6 +70,7 @@ fn read_terms(line: &[u8]) -> Line
 }
 
 // One of lines 2 to 9, with its line feed.
+#[tactic(auto, unfolding(crate::specs::Input::energies_of))]
 fn read_energies(line: &[u8]) -> Line
     requires { length line.now ≡ 19 }
     ensures { result ≡ energies_of line.now }
@@ -86,6 +88,7 @@ fn read_energies(line: &[u8]) -> Line
 }
 
 // Line n; malformed where the text has none.
+#[tactic(auto, unfolding(crate::specs::Input::line_at))]
 fn line_at(text: &[u8], n: usize) -> Line
     ensures { result ≡ line_at text.now n }
 {
