@@ -50,7 +50,7 @@ module _ (r : Record) (s : Standing) (is : s ≡ standing_of r) where
   unusable-is e = rw is at e
 
   pub can-use : {b : Bool} → b ≡ eqb r.closed 8 || not s.holds → b ≡ false → unusable r ≡ false
-  can-use e no = sym (unusable-is e) ∙ no
+  can-use e free = sym (unusable-is e) ∙ free
 
   module _ (e : unusable r ≡ false) where
     pub low_fits : NeedFits s.low
