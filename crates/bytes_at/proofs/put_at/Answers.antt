@@ -1,5 +1,4 @@
 -- `bytes_at::put_at` meets its contract. Assumes nothing.
-use Prim.Native.Nat.{◌-◌}
 use native.Mathlib.Omega.{arith}
 use Rattle.bytes_at.proofs.Writing.{short, begin, step, done}
 use Rattle.bytes_at.proofs.put_at.Goals as goal

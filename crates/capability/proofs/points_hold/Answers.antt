@@ -1,10 +1,8 @@
 -- `capability::points_hold` meets its contract. The loop's invariant is `Passed`. Assumes nothing.
 use mathlib.Core.Path.{◌≡◌, sym, ◌∙◌}
-use mathlib.Core.Bool.{true, ◌&&◌}
-use Prim.Native.Nat.{◌-◌}
+use mathlib.Core.Bool.{◌&&◌}
 use native.Mathlib.Omega.{arith}
 use borrow.Author.Rules.{rules}
-use lib.Dec.{leb}
 use lib.ListN.{length}
 use Rattle.capability.specs.Capability.{point_in_range, rises}
 use Rattle.capability.specs.declared.Point.{Point}

@@ -1,10 +1,5 @@
 -- `instructions::follow` meets its contract. Assumes nothing.
-use mathlib.Core.Path.{◌≡◌, sym, ◌∙◌}
-use mathlib.Core.Bool.{false}
-use borrow.Author.Tests.{not-true, not-false}
-use Rattle.instructions.specs.declared.Machine.{Machine}
-use Rattle.instructions.specs.declared.Event.{Event}
-use Rattle.instructions.specs.Instructions.{too_soon}
+use mathlib.Core.Path.{sym, ◌∙◌}
 use Rattle.instructions.proofs.Following.{earlier, too-soon, unsuited, carried-out}
 use Rattle.instructions.proofs.follow.Goals as goal
 

@@ -1,10 +1,9 @@
 -- `payment::measure` meets its contract. The loop's invariant is `Read`. Assumes nothing.
-use mathlib.Core.Path.{◌≡◌, sym, ◌∙◌}
-use Prim.Native.Nat.{◌-◌, ◌≤◌}
+use mathlib.Core.Path.{◌≡◌}
+use Prim.Native.Nat.{◌≤◌}
 use native.Mathlib.Omega.{arith}
 use lib.ListN.{length}
 use borrow.Author.Rules.{rules}
-use Rattle.payment.specs.declared.Piece.{Piece}
 use Rattle.payment.proofs.Measuring.{at, over, kept, miscounted, begin, piece-little, step, all-work, too_much, too_long, holds}
 use Rattle.payment.proofs.measure.Goals as goal
 

@@ -1,15 +1,10 @@
 -- `payment::payment` meets its contract. Assumes nothing.
 use mathlib.Core.Path.{◌≡◌, sym, ◌∙◌}
-use mathlib.Core.Bool.{true}
-use mathlib.Core.List.{map}
 use Prim.Native.Nat.{ℕ, ◌*◌, ◌-◌, ◌≤◌, max}
 use native.Mathlib.Nat.{mul-le-mul}
 use native.Mathlib.Omega.{arith}
 use mir.Facts.{to_z-of_z}
-use borrow.Author.Rules.{rules, sfits_of}
-use Rattle.common.specs.Lists.{sum}
-use Rattle.payment.specs.Payment.{pieces_of, pieces_rule, work}
-use Rattle.payment.specs.declared.Pieces.{Pieces}
+use Rattle.payment.specs.Payment.{pieces_of}
 use Rattle.payment.proofs.Amounts.{amount-is}
 use Rattle.payment.proofs.Answers.{kept_rule, broken-rule, work-most, lost-most, price-over, adjustment-over, k-over, f-over, pieces-over, paid}
 use Rattle.payment.proofs.payment.Goals as goal
