@@ -1,14 +1,11 @@
 -- What a closing learns on its way: the most that an accepted purchase is, what the period energy says, and what settling says.
 -- Assumes nothing.
 use mathlib.Core.Path.{◌≡◌, refl, ap, sym, ◌∙◌}
-use mathlib.Core.Logic.{inl, inr}
 use mathlib.Core.Bool.{Bool, true, false, not, cond}
-use mathlib.Core.List.{List, [], ◌∷◌}
-use Prim.Native.Nat.{ℕ, suc, ◌+◌, ◌≤◌}
+use mathlib.Core.List.{List}
+use Prim.Native.Nat.{ℕ, suc, ◌≤◌}
 use native.Mathlib.Omega.{arith}
 use lib.IntN.{ℤ, pos, ◌+ℤ◌}
-use types.Run.{OneOf}
-use denote.Enum.Declared.{tag_of}
 use Rattle.common.specs.Answer.{Answer, refused, given}
 use Rattle.common.specs.Periods.{of_period}
 use Rattle.signed.specs.Sign.{above, below}
@@ -22,7 +19,6 @@ use Rattle.energy.specs.Period.{good_readings, low_bound, high_bound, Bounds, pe
 use Rattle.energy.specs.declared.curve.Curves.{Curves}
 use Rattle.energy.specs.declared.period.PeriodEnergy.{PeriodEnergy}
 use Rattle.energy.specs.declared.period.PeriodEnergy.TheVariants as energy
-use Rattle.energy.specs.contracts.period.PeriodEnergy.{the_type}
 use Rattle.ledger_record.specs.Rule.{start_at, back_at}
 use Rattle.ledger_record.specs.declared.Entries.{Entries}
 use Rattle.ledger_record.specs.declared.Record.{Record}

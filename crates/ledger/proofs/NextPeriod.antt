@@ -12,7 +12,7 @@ use Rattle.common.specs.Periods.{of_period}
 use Rattle.signed.specs.Sign.{within}
 use Rattle.terms.specs.Terms.{Q, REV, ER, above1000}
 use Rattle.terms.specs.declared.Quantities.{Quantities}
-use Rattle.requirement.specs.Requirement.{sched, start, left}
+use Rattle.requirement.specs.Requirement.{sched}
 use Rattle.requirement.specs.declared.Next.{Next}
 use Rattle.requirement.proofs.Laws.{back-recovery, left-most, left-local, start-local}
 use Rattle.requirement.proofs.Need.{start-above}

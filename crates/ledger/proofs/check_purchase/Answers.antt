@@ -1,5 +1,4 @@
 -- `ledger::check_purchase` meets its contract. Assumes nothing.
-use mathlib.Core.Path.{◌≡◌, sym, ◌∙◌}
 use mir.Facts.{to_z-of_z}
 use Rattle.ledger.specs.Calls.{checking}
 use Rattle.ledger.proofs.NextPeriod.{unusable-is, can-use, low_fits, high_fits, accepts-is}

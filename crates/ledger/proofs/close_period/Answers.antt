@@ -1,7 +1,7 @@
 -- `ledger::close_period` meets its contract, by its causes in their order. Assumes nothing.
 use mathlib.Core.Path.{◌≡◌, refl, sym, ◌∙◌}
 use mathlib.Core.List.{List}
-use mathlib.Core.Bool.{Bool, true, false, cond, ◌&&◌}
+use mathlib.Core.Bool.{true, false, ◌&&◌}
 use Prim.Native.Nat.{ℕ, ◌-◌}
 use native.Mathlib.Omega.{arith}
 use borrow.Author.Rules.{rules}
@@ -17,12 +17,10 @@ use Rattle.terms.specs.Terms.{Q}
 use Rattle.energy.specs.Period.{good_readings, low_bound, high_bound, low_deviation, high_deviation}
 use Rattle.energy.proofs.Laws.{bound-most}
 use Rattle.ledger_record.specs.declared.Record.{Record}
-use Rattle.ledger_record.proofs.Openings.{LetThrough}
-use Rattle.ledger_record.proofs.Kept.{Kept, kept, opened}
+use Rattle.ledger_record.proofs.Kept.{kept, opened}
 use Rattle.ledger.specs.Calls.{unusable, is_trader, accepts, moved, settles, TotalsFit, closing}
-use Rattle.ledger_record.specs.declared.Standing.{Standing}
 use Rattle.ledger.proofs.ByTrader.{trader-in}
-use Rattle.ledger.proofs.Closings.{accepted-most, no-bounds, BoundsAre, bounds-are, not-settled, settled-to}
+use Rattle.ledger.proofs.Closings.{accepted-most, no-bounds, bounds-are, not-settled, settled-to}
 use Rattle.ledger.proofs.NextPeriod.{unusable-is, can-use, low_fits, high_fits, accepts-is}
 use Rattle.ledger.proofs.Settling.{in_bounds}
 use Rattle.ledger.proofs.Usable.{rule-kept, before-eight}

@@ -13,5 +13,4 @@ lies_between-requires c = (c.need_of.ensures.1, c.need_of-2.ensures.1)
 
 pub returns : goal.returns
 returns c =
-    let n = c in
-    rw (c.lies_between.ensures, to_z-of_z n.ranges.purchase, ← n.need_of.ensures.0, ← n.need_of-2.ensures.0)
+    rw (c.lies_between.ensures, to_z-of_z c.ranges.purchase, ← c.need_of.ensures.0, ← c.need_of-2.ensures.0)

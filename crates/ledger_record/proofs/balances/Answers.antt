@@ -2,6 +2,4 @@
 use Rattle.ledger_record.proofs.balances.Goals as goal
 
 pub returns : goal.returns
-returns c =
-    let b = c in
-    rw (b.sum_of_traders-2.ensures.0, b.sum_of_traders.ensures.0)
+returns c = rw (c.sum_of_traders-2.ensures.0, c.sum_of_traders.ensures.0)

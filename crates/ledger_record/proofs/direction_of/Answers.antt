@@ -10,8 +10,5 @@ overflow_mul-most c = rw c.of-most.ensures (search rules)
 pub returns : goal.returns
 unfolding matched_to
 returns c =
-    let w = c in
-    let m = w in
-    let o = m in
-    let a = o.args in
-    rw (w.entries_within.ensures, m.match_entries-matched.ensures, o.of-most.ensures, in_parts a.q a.closed a.entries)
+    let a = c.args in
+    rw (c.entries_within.ensures, c.match_entries-matched.ensures, c.of-most.ensures, in_parts a.q a.closed a.entries)

@@ -3,5 +3,4 @@ use Rattle.ledger_record.proofs.quantity_out.Goals as goal
 
 pub returns : goal.returns
 returns c =
-    let o2 = c in
-    rw (c.above_1000_mw.ensures, c.above_1000_mw-2.ensures, o2.of.ensures, o2.of-2.ensures)
+    rw (c.above_1000_mw.ensures, c.above_1000_mw-2.ensures, c.of.ensures, c.of-2.ensures)
