@@ -1,4 +1,5 @@
 // A line's word and numbers.
+ghost use Rattle.std.specs.Prelude.{◌≤◌, length};
 
 // The numbers after the word; good: they are written as they must be, and are fewer than 12.
 #[derive(Clone, Copy)]
@@ -19,6 +20,17 @@ struct Number {
     good: bool,
     value: i64,
     next: usize,
+}
+
+// The place of the first such byte from a place on, or the end where there is none.
+pub fn find(text: &[u8], from: usize, byte: u8) -> usize
+    requires { from ≤ length text.now }
+    ensures { (from ≤ result) × (result ≤ length text.now) }
+{
+    match text[from..].iter().position(|b| *b == byte) {
+        Some(i) => from + i,
+        None => text.len(),
+    }
 }
 
 // A word's bytes after a 1, as one number; 0 for a word of more than seven.
