@@ -55,15 +55,13 @@ module _ (low high : Quantities) (c : Curves) (xs : List ℕ) (l : above1000 low
   energy-is = e ∙ rw (l, h, k)
 
   -- no bounds: 6 holds
-  pub no-bounds : OneOf (1 ∷ 2 ∷ 3 ∷ []) (tag_of the_type r) → good_readings xs ≡ false
+  pub no-bounds : ((m n : ℕ) → r ≡ energy.Bounds m n → ⊥) → good_readings xs ≡ false
   no-bounds t = by r t (good_readings xs) energy-is
     where
-      by : (r : PeriodEnergy) → OneOf (1 ∷ 2 ∷ 3 ∷ []) (tag_of the_type r) → (g : Bool)
+      by : (r : PeriodEnergy) → ((m n : ℕ) → r ≡ energy.Bounds m n → ⊥) → (g : Bool)
           → answer_of r ≡ cond (not g) (refused 6) (given (record { low = low_bound low c xs; high = high_bound high c xs })) → g ≡ false
       by r t false p = refl
-      by (energy.Bounds m n) (inl a) true p = absurd (omega arith)
-      by (energy.Bounds m n) (inr (inl a)) true p = absurd (omega arith)
-      by (energy.Bounds m n) (inr (inr a)) true p = absurd (omega arith)
+      by (energy.Bounds m n) t true p = absurd (t m n refl)
       by energy.Quantity t true p = let z : ◌≡◌ {A = ℕ} 0 1 = cc in absurd (omega arith)
       by energy.Curve t true p = let z : ◌≡◌ {A = ℕ} 0 1 = cc in absurd (omega arith)
       by energy.Readings t true p = let z : ◌≡◌ {A = ℕ} 0 1 = cc in absurd (omega arith)

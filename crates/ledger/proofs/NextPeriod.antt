@@ -1,5 +1,5 @@
 -- The calls by what the next period begins with: floor and ceiling, and the entries of a closing. Assumes nothing.
-use mathlib.Core.Path.{◌≡◌, ap}
+use mathlib.Core.Path.{◌≡◌, sym, ap, ◌∙◌}
 use mathlib.Core.Bool.{Bool, false, not, ◌||◌}
 use Prim.Native.Nat.{ℕ, suc, ◌+◌, ◌-◌, ◌*◌, ◌^◌, ◌≤◌, ◌<◌, min}
 use native.Mathlib.Omega.{arith}
@@ -48,6 +48,9 @@ module _ (r : Record) (s : Standing) (is : s ≡ standing_of r) where
   pub unusable-is : {b : Bool} → b ≡ eqb r.closed 8 || not s.holds → b ≡ unusable r
   unfolding unusable standing_of
   unusable-is e = rw is at e
+
+  pub can-use : {b : Bool} → b ≡ eqb r.closed 8 || not s.holds → b ≡ false → unusable r ≡ false
+  can-use e free = sym (unusable-is e) ∙ free
 
   module _ (e : unusable r ≡ false) where
     pub low_fits : NeedFits s.low

@@ -1,0 +1,17 @@
+-- `ledger_record::direction_of` meets its contract. Assumes nothing.
+use borrow.Author.Rules.{rules}
+use Rattle.requirement.specs.Requirement.{matched_to}
+use Rattle.ledger_record.proofs.Entry.{in_parts}
+use Rattle.ledger_record.proofs.direction_of.Goals as goal
+
+pub overflow_mul-most : goal.overflow_mul-most
+overflow_mul-most c = rw c.of-most.ensures (search rules)
+
+pub returns : goal.returns
+unfolding matched_to
+returns c =
+    let w = c in
+    let m = w in
+    let o = m in
+    let a = o.args in
+    rw (w.entries_within.ensures, m.match_entries-matched.ensures, o.of-most.ensures, in_parts a.q a.closed a.entries)
