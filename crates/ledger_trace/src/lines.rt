@@ -134,7 +134,7 @@ pub struct Line {
 }
 
 pub fn line_of(line: &[u8], held: usize) -> Line {
-    let end = find(line, 0, b' ');
+    let end = find(line, b' ').unwrap_or(line.len());
     let numbers = numbers_from(line, end);
     let word = word_number(&line[..end]);
     Line {

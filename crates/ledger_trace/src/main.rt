@@ -106,10 +106,10 @@ fn take_lines(rt: &impl Print, input: &[u8], space: &mut [u16]) -> io::Result<u6
     let mut at: usize = 0;
     while at < input.len() {
         number += 1;
-        let end = find(input, at, b'\n');
-        if end == input.len() {
+        let Some(length) = find(&input[at..], b'\n') else {
             return Ok(number);
-        }
+        };
+        let end = at + length;
         let next = end + 1;
         let line = line_of(&input[at..end], state.held);
         if !line.good {

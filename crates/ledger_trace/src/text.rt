@@ -1,5 +1,5 @@
 // A line's word and numbers.
-ghost use Rattle.std.specs.Prelude.{◌≤◌, length};
+ghost use Rattle.std.specs.Prelude.{◌≡◌, ◌==◌, position};
 
 // The numbers after the word; good: they are written as they must be, and are fewer than 12.
 #[derive(Clone, Copy)]
@@ -22,15 +22,11 @@ struct Number {
     next: usize,
 }
 
-// The place of the first such byte from a place on, or the end where there is none.
-pub fn find(text: &[u8], from: usize, byte: u8) -> usize
-    requires { from ≤ length text.now }
-    ensures { (from ≤ result) × (result ≤ length text.now) }
+// The place of the first such byte.
+pub fn find(text: &[u8], byte: u8) -> Option<usize>
+    ensures { result ≡ position (λ b. b == byte) text.now }
 {
-    match text[from..].iter().position(|b| *b == byte) {
-        Some(i) => from + i,
-        None => text.len(),
-    }
+    text.iter().position(|b| *b == byte)
 }
 
 // A word's bytes after a 1, as one number; 0 for a word of more than seven.
