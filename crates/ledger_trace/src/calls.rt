@@ -4,6 +4,7 @@ use crate::text::{Numbers, value, value_u16, value_u32};
 use energy::curve::{Curve, Curves, Point};
 use ledger::ProposeAnswer;
 use ledger_record::Record;
+use std::io;
 use terms::{Quantities, Terms};
 
 fn point_at(numbers: Numbers, deviation: usize, share: usize) -> Point {
@@ -64,7 +65,7 @@ pub fn high_of(numbers: Numbers) -> Quantities {
 }
 
 // open LDC LDM LDR HDC HDM HDR EXPORT IMPORT SIZE FIRST
-pub fn open(numbers: Numbers, curves: Curves) -> Record {
+pub fn open(rt: &impl Print, numbers: Numbers, curves: Curves) -> io::Result<Record> {
     let t = Terms {
         low: low_of(numbers),
         high: high_of(numbers),
@@ -75,24 +76,24 @@ pub fn open(numbers: Numbers, curves: Curves) -> Record {
     let first = value_u32(numbers, 9);
     let opened = ledger_record::open_record(t, curves, size, first);
     let answer = opened.answer;
-    write_line(b"open", ledger_record::open_number(answer) as u64);
-    opened.record
+    write_line(rt, b"open", ledger_record::open_number(answer) as u64)?;
+    Ok(opened.record)
 }
 
 // check P
-pub fn check(numbers: Numbers, record: Record) {
+pub fn check(rt: &impl Print, numbers: Numbers, record: Record) -> io::Result<()> {
     let answer = ledger::check_purchase(record, value(numbers, 0));
-    write_line(b"check", ledger::check_number(answer) as u64);
+    write_line(rt, b"check", ledger::check_number(answer) as u64)
 }
 
 // propose
-pub fn propose(record: Record) {
+pub fn propose(rt: &impl Print, record: Record) -> io::Result<()> {
     let answer = ledger::propose_purchase(record);
-    write(b"propose");
-    write_number(ledger::propose_number(answer) as u64);
+    write(rt, b"propose")?;
+    write_number(rt, ledger::propose_number(answer) as u64)?;
     match answer {
-        ProposeAnswer::Purchase(p) => write_signed(p),
-        ProposeAnswer::Unusable => write_number(0),
+        ProposeAnswer::Purchase(p) => write_signed(rt, p)?,
+        ProposeAnswer::Unusable => write_number(rt, 0)?,
     }
-    write(b"\n");
+    write(rt, b"\n")
 }

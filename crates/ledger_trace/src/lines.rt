@@ -1,7 +1,6 @@
 // What a line must be: a word, and the numbers that the word takes.
 use crate::readings::MOST_READINGS;
-use crate::text::{Numbers, are_within, numbers_from, value_u32, word_number};
-use bytes::scan::find;
+use crate::text::{Numbers, are_within, find, numbers_from, value_u32, word_number};
 
 // The words, as `text::word_number` gives them.
 pub const CHECK: u64 = 0x1_63_68_65_63_6b;
@@ -135,7 +134,7 @@ pub struct Line {
 }
 
 pub fn line_of(line: &[u8], held: usize) -> Line {
-    let end = find(line, 0, line.len(), b' ');
+    let end = find(line, b' ').unwrap_or(line.len());
     let numbers = numbers_from(line, end);
     let word = word_number(&line[..end]);
     Line {

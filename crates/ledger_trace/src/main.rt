@@ -11,43 +11,56 @@ mod show;
 mod state;
 mod text;
 
-use bytes::scan::find;
 use energy::curve::Curves;
 use ledger_record::Record;
-use libc::STDIN_FILENO;
 use lines::line_of;
 use readings::MOST_READINGS;
 use show::write_record;
 use state::State;
-use text::Numbers;
+use std::io;
+use text::{Numbers, find};
 
 // The calls that print the record after them.
-fn call_record(word: u64, numbers: Numbers, curves: Curves, given: Record, held: &[u16]) -> Record {
+fn call_record(
+    rt: &impl Print,
+    word: u64,
+    numbers: Numbers,
+    curves: Curves,
+    given: Record,
+    held: &[u16],
+) -> io::Result<Record> {
     let mut record = given;
     match word {
-        lines::OPEN => record = calls::open(numbers, curves),
-        lines::CHECK => calls::check(numbers, given),
-        lines::PROPOSE => calls::propose(given),
-        _ => record = readings::close(numbers, given, held),
+        lines::OPEN => record = calls::open(rt, numbers, curves)?,
+        lines::CHECK => calls::check(rt, numbers, given)?,
+        lines::PROPOSE => calls::propose(rt, given)?,
+        _ => record = readings::close(rt, numbers, given, held)?,
     }
-    write_record(record);
-    record
+    write_record(rt, record)?;
+    Ok(record)
 }
 
-fn next_record(word: u64, numbers: Numbers, curves: Curves, given: Record, held: &[u16]) -> Record {
+fn next_record(
+    rt: &impl Print,
+    word: u64,
+    numbers: Numbers,
+    curves: Curves,
+    given: Record,
+    held: &[u16],
+) -> io::Result<Record> {
     match word {
-        lines::PUT => return make::put(numbers, given),
-        lines::ENERGY => readings::bound(numbers, curves, held),
-        lines::TABLE => readings::bound_by_table(numbers, curves, held),
-        lines::RESPOND => readings::respond(numbers),
-        lines::BLOCK => readings::block(held),
-        lines::PART => readings::part(numbers, held),
+        lines::PUT => return Ok(make::put(numbers, given)),
+        lines::ENERGY => readings::bound(rt, numbers, curves, held)?,
+        lines::TABLE => readings::bound_by_table(rt, numbers, curves, held)?,
+        lines::RESPOND => readings::respond(rt, numbers)?,
+        lines::BLOCK => readings::block(rt, held)?,
+        lines::PART => readings::part(rt, numbers, held)?,
         lines::READ => (),
         lines::CLEAR => (),
         lines::CURVE => (),
-        _ => return call_record(word, numbers, curves, given, held),
+        _ => return call_record(rt, word, numbers, curves, given, held),
     }
-    given
+    Ok(given)
 }
 
 fn next_curves(word: u64, numbers: Numbers, curves: Curves) -> Curves {
@@ -68,39 +81,45 @@ fn next_held(word: u64, numbers: Numbers, held: usize, space: &mut [u16]) -> usi
     }
 }
 
-fn call(word: u64, numbers: Numbers, state: State, space: &mut [u16]) -> State {
+fn call(
+    rt: &impl Print,
+    word: u64,
+    numbers: Numbers,
+    state: State,
+    space: &mut [u16],
+) -> io::Result<State> {
     let curves = state.curves;
     let record = state.record;
     let held = common::smaller(state.held as u64, space.len() as u64) as usize;
-    let after = next_record(word, numbers, curves, record, &space[..held]);
-    State {
+    let after = next_record(rt, word, numbers, curves, record, &space[..held])?;
+    Ok(State {
         held: next_held(word, numbers, held, space),
         curves: next_curves(word, numbers, curves),
         record: after,
-    }
+    })
 }
 
 // The number of the first malformed line, after which none is read; 0 where none is.
-fn take_lines(input: &[u8], space: &mut [u16]) -> u64 {
+fn take_lines(rt: &impl Print, input: &[u8], space: &mut [u16]) -> io::Result<u64> {
     let mut state = state::first_state();
     let mut number: u64 = 0;
     let mut at: usize = 0;
     while at < input.len() {
         number += 1;
-        let end = find(input, at, input.len(), b'\n');
-        if end == input.len() {
-            return number;
-        }
+        let Some(length) = find(&input[at..], b'\n') else {
+            return Ok(number);
+        };
+        let end = at + length;
         let next = end + 1;
         let line = line_of(&input[at..end], state.held);
         if !line.good {
-            return number;
+            return Ok(number);
         }
         let numbers = line.numbers;
-        state = call(line.word, numbers, state, space);
+        state = call(rt, line.word, numbers, state, space)?;
         at = next;
     }
-    0
+    Ok(0)
 }
 
 // Room for the most bytes and one more.
@@ -110,16 +129,16 @@ fn room() -> [u8; 1_000_001]
     [0; 1_000_001]
 }
 
-fn main() {
+fn main(rt: HostRuntime) -> io::Result<()> {
     let mut input = room();
-    let n = io::read_full(STDIN_FILENO, &mut input);
+    let n = streams::read_full(&mut rt.stdin(), &mut input)?;
     if 1_000_000 < n {
-        show::write_line(b"malformed", 0);
-        return;
+        return show::write_line(&rt, b"malformed", 0);
     }
     let mut space = [0u16; MOST_READINGS];
-    let number = take_lines(&input[..n], &mut space);
+    let number = take_lines(&rt, &input[..n], &mut space)?;
     if 0 < number {
-        show::write_line(b"malformed", number);
+        show::write_line(&rt, b"malformed", number)?;
     }
+    Ok(())
 }

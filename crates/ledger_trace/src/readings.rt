@@ -8,6 +8,7 @@ use energy::curve::Curves;
 use energy::period::{PeriodEnergy, period_energy, period_energy_by_table};
 use energy::rate::BLOCK_AT_TWENTY;
 use ledger_record::Record;
+use std::io;
 
 // One more than the longest block has.
 pub const MOST_READINGS: usize = BLOCK_AT_TWENTY + 1;
@@ -35,80 +36,103 @@ pub fn read(numbers: Numbers, held: usize, readings: &mut [u16]) -> usize {
 }
 
 // close P D T W
-pub fn close(numbers: Numbers, given: Record, readings: &[u16]) -> Record {
+pub fn close(
+    rt: &impl Print,
+    numbers: Numbers,
+    given: Record,
+    readings: &[u16],
+) -> io::Result<Record> {
     let p = value(numbers, 0);
     let delivered = value(numbers, 1);
     let taken = value(numbers, 2);
     let trader = value_u32(numbers, 3);
     let closed = ledger::close_period(given, p, readings, delivered, taken, trader);
     let answer = closed.answer;
-    write_line(b"close", ledger::close_number(answer) as u64);
-    closed.record
+    write_line(rt, b"close", ledger::close_number(answer) as u64)?;
+    Ok(closed.record)
 }
 
-fn write_energy(word: &[u8], answer: PeriodEnergy) {
+fn write_energy(rt: &impl Print, word: &[u8], answer: PeriodEnergy) -> io::Result<()> {
     let number = energy::period::number(answer) as u64;
     match answer {
         PeriodEnergy::Bounds { low, high } => {
-            write_three(word, number, low as u64, high as u64);
+            write_three(rt, word, number, low as u64, high as u64)
         }
-        _ => write_three(word, number, 0, 0),
+        _ => write_three(rt, word, number, 0, 0),
     }
 }
 
 // energy LDC LDM LDR HDC HDM HDR
-pub fn bound(numbers: Numbers, curves: Curves, readings: &[u16]) {
+pub fn bound(
+    rt: &impl Print,
+    numbers: Numbers,
+    curves: Curves,
+    readings: &[u16],
+) -> io::Result<()> {
     let low = low_of(numbers);
     let high = high_of(numbers);
-    write_energy(b"energy", period_energy(low, high, curves, readings));
+    write_energy(rt, b"energy", period_energy(low, high, curves, readings))
 }
 
 // table LDC LDM LDR HDC HDM HDR
-pub fn bound_by_table(numbers: Numbers, curves: Curves, readings: &[u16]) {
+pub fn bound_by_table(
+    rt: &impl Print,
+    numbers: Numbers,
+    curves: Curves,
+    readings: &[u16],
+) -> io::Result<()> {
     let low = low_of(numbers);
     let high = high_of(numbers);
     write_energy(
+        rt,
         b"table",
         period_energy_by_table(low, high, curves, readings),
-    );
+    )
 }
 
 // respond MW D
-pub fn respond(numbers: Numbers) {
+pub fn respond(rt: &impl Print, numbers: Numbers) -> io::Result<()> {
     write_line(
+        rt,
         b"respond",
         response_by_table(value_u32(numbers, 0), value_u16(numbers, 1)),
-    );
+    )
 }
 
-fn write_check(answer: BlockCheck) {
+fn write_check(rt: &impl Print, answer: BlockCheck) -> io::Result<()> {
     match answer {
-        BlockCheck::Good => write_three(b"block", 0, 0, 0),
+        BlockCheck::Good => write_three(rt, b"block", 0, 0, 0),
         BlockCheck::Bad { period, place } => {
-            write_three(b"block", 6, period as u64, place as u64);
+            write_three(rt, b"block", 6, period as u64, place as u64)
         }
     }
 }
 
 // block
-pub fn block(readings: &[u16]) {
-    write_check(energy::block::check_block(readings));
+pub fn block(rt: &impl Print, readings: &[u16]) -> io::Result<()> {
+    write_check(rt, energy::block::check_block(readings))
 }
 
 fn wide(reading: u16) -> u64 {
     reading as u64
 }
 
-fn write_part(part: &[u16]) {
+fn write_part(rt: &impl Print, part: &[u16]) -> io::Result<()> {
     let count = part.len();
     if count == 0 {
-        write_three(b"part", 0, 0, 0);
+        write_three(rt, b"part", 0, 0, 0)
     } else {
-        write_three(b"part", count as u64, wide(part[0]), wide(part[count - 1]));
+        write_three(
+            rt,
+            b"part",
+            count as u64,
+            wide(part[0]),
+            wide(part[count - 1]),
+        )
     }
 }
 
 // part N
-pub fn part(numbers: Numbers, readings: &[u16]) {
-    write_part(energy::block::part(readings, value_u32(numbers, 0)));
+pub fn part(rt: &impl Print, numbers: Numbers, readings: &[u16]) -> io::Result<()> {
+    write_part(rt, energy::block::part(readings, value_u32(numbers, 0)))
 }

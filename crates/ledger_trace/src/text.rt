@@ -1,4 +1,5 @@
 // A line's word and numbers.
+ghost use Rattle.std.specs.Prelude.{◌≡◌, ◌==◌, position};
 
 // The numbers after the word; good: they are written as they must be, and are fewer than 12.
 #[derive(Clone, Copy)]
@@ -19,6 +20,13 @@ struct Number {
     good: bool,
     value: i64,
     next: usize,
+}
+
+// The place of the first such byte.
+pub fn find(text: &[u8], byte: u8) -> Option<usize>
+    ensures { result ≡ position (λ b. b == byte) text.now }
+{
+    text.iter().position(|b| *b == byte)
 }
 
 // A word's bytes after a 1, as one number; 0 for a word of more than seven.
