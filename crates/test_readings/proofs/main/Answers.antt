@@ -1,5 +1,5 @@
 -- `test_readings::main` writes what `print_period` printed, which fits its page. Assumes nothing.
-use Rattle.std.proofs.Common.{◌≡◌, ℕ, ◌≤◌, length, List, sym}
+use Rattle.std.proofs.Common.{ℕ, sym}
 use Rattle.std.proofs.Math.ListN.{length-replicate}
 use Rattle.std.proofs.Math.Seq.{length-take-le}
 use Rattle.test_day.proofs.Printing.{printed-fits}
