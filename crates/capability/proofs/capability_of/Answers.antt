@@ -19,16 +19,13 @@ bounds-points-i c = omega arith
 pub returns-then-room-q : goal.returns-then-room-q
 unfolding capability_of
 returns-then-room-q c =
-    let t = c in
-    c.on_line.ensures ∙ sym (ap rounded_down (here _ _ _ t.loop-i.invariant t.loop-i-test.true c.if-room-q.true))
+    c.on_line.ensures ∙ sym (ap rounded_down (here _ _ _ c.loop-i.invariant c.loop-i-test.true c.if-room-q.true))
 
 pub loop-i-preserved : goal.loop-i-preserved
 loop-i-preserved c =
-    let t = c in
-    farther-on _ _ _ t.loop-i.invariant t.loop-i-test.true c.if-room-q.false
+    farther-on _ _ _ c.loop-i.invariant c.loop-i-test.true c.if-room-q.false
 
 pub returns : goal.returns
 unfolding capability_of
 returns c =
-    let l = c in
-    c.on_line-2.ensures ∙ sym (ap rounded_down (last-two _ _ _ l.loop-i.invariant c.loop-i-test.false))
+    c.on_line-2.ensures ∙ sym (ap rounded_down (last-two _ _ _ c.loop-i.invariant c.loop-i-test.false))

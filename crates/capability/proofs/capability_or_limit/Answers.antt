@@ -21,16 +21,14 @@ parts direction l ps limit h =
 
 pub overflow_cast-room : goal.overflow_cast-room
 overflow_cast-room c =
-    let s = c in
-    let a = s.args in
-    omega (arith, room_most a.l (parts a.direction a.l a.ps a.limit s.requires).0 a.direction)
+    let a = c.args in
+    omega (arith, room_most a.l (parts a.direction a.l a.ps a.limit c.requires).0 a.direction)
 
 pub capability_of-requires : goal.capability_of-requires
 capability_of-requires c =
-    let s = c in
-    let a = s.args in
-    (parts a.direction a.l a.ps a.limit s.requires).1
+    let a = c.args in
+    (parts a.direction a.l a.ps a.limit c.requires).1
 
 pub returns : goal.returns
 unfolding capability_or_limit
-returns c = let p = c in rw (c.smaller.ensures, p.capability_of.ensures, p.room_of-room.ensures)
+returns c = rw (c.smaller.ensures, c.capability_of.ensures, c.room_of-room.ensures)

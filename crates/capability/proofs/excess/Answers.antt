@@ -8,28 +8,23 @@ use Rattle.capability.proofs.excess.Goals as goal
 
 pub overflow_add-from : goal.overflow_add-from
 overflow_add-from c =
-    let s = c in
-    rw (c.above_zero.ensures, c.below_zero.ensures, to_z-of_z s.ranges.a, to_z-of_z s.ranges.b)
-    (omega (arith, above-fits s.ranges.b, below-fits s.ranges.a))
+    rw (c.above_zero.ensures, c.below_zero.ensures, to_z-of_z c.ranges.a, to_z-of_z c.ranges.b)
+    (omega (arith, above-fits c.ranges.b, below-fits c.ranges.a))
 
 pub overflow_add-to : goal.overflow_add-to
 overflow_add-to c =
-    let s = c in
-    rw (c.above_zero-2.ensures, c.below_zero-2.ensures, to_z-of_z s.ranges.a, to_z-of_z s.ranges.b)
-    (omega (arith, above-fits s.ranges.a, below-fits s.ranges.b))
+    rw (c.above_zero-2.ensures, c.below_zero-2.ensures, to_z-of_z c.ranges.a, to_z-of_z c.ranges.b)
+    (omega (arith, above-fits c.ranges.a, below-fits c.ranges.b))
 
 pub returns : goal.returns
 returns c =
-    let to = c in
-    let from = to in
-    let s = from in
     rw (
       c.smaller.ensures,
-      from.above_zero.ensures,
-      from.below_zero.ensures,
-      to.above_zero-2.ensures,
-      to.below_zero-2.ensures,
-      to_z-of_z s.ranges.a,
-      to_z-of_z s.ranges.b,
+      c.above_zero.ensures,
+      c.below_zero.ensures,
+      c.above_zero-2.ensures,
+      c.below_zero-2.ensures,
+      to_z-of_z c.ranges.a,
+      to_z-of_z c.ranges.b,
     )
-    (omega (arith, less s.args.a s.args.b, one-sided (s.args.a -ℤ s.args.b)))
+    (omega (arith, less c.args.a c.args.b, one-sided (c.args.a -ℤ c.args.b)))

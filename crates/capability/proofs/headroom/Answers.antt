@@ -6,18 +6,14 @@ use Rattle.capability.proofs.headroom.Goals as goal
 pub returns-then-whole_range-at_or_above_sel : goal.returns-then-whole_range-at_or_above_sel
 unfolding headroom
 returns-then-whole_range-at_or_above_sel c =
-    let t = c in
-    rw (c.excess.ensures, ← t.whole_range.ensures, ← t.at_or_above_sel.ensures, t.if-whole_range-at_or_above_sel.true) (search rules)
+    rw (c.excess.ensures, ← c.whole_range.ensures, ← c.at_or_above_sel.ensures, c.if-whole_range-at_or_above_sel.true) (search rules)
 
 pub returns-then-at_or_below_sil : goal.returns-then-at_or_below_sil
 unfolding headroom
 returns-then-at_or_below_sil c =
-    let t = c in
-    let e = t in
-    rw (c.excess-then-at_or_below_sil.ensures, ← e.whole_range.ensures, ← e.at_or_above_sel.ensures, e.if-whole_range-at_or_above_sel.false, ← t.at_or_below_sil.ensures, t.if-at_or_below_sil.true) (search rules)
+    rw (c.excess-then-at_or_below_sil.ensures, ← c.whole_range.ensures, ← c.at_or_above_sel.ensures, c.if-whole_range-at_or_above_sel.false, ← c.at_or_below_sil.ensures, c.if-at_or_below_sil.true) (search rules)
 
 pub returns : goal.returns
 unfolding headroom
 returns c =
-    let e = c in
-    rw (← e.whole_range.ensures, ← e.at_or_above_sel.ensures, e.if-whole_range-at_or_above_sel.false, ← c.at_or_below_sil.ensures, c.if-at_or_below_sil.false)
+    rw (← c.whole_range.ensures, ← c.at_or_above_sel.ensures, c.if-whole_range-at_or_above_sel.false, ← c.at_or_below_sil.ensures, c.if-at_or_below_sil.false)

@@ -5,4 +5,4 @@ use Rattle.capability.proofs.limits_hold.Goals as goal
 
 pub returns : goal.returns
 unfolding limits_rule
-returns c = let s = c in rw s.each_in_range.ensures (search rules)
+returns c = rw c.each_in_range.ensures (search rules)

@@ -5,20 +5,16 @@ use Rattle.capability.proofs.on_line.Goals as goal
 
 pub overflow_mul-p : goal.overflow_mul-p
 overflow_mul-p c =
-    let s = c in
-    omega (arith, level-most _ _ _ s.requires s.ranges.room.fits)
+    omega (arith, level-most _ _ _ c.requires c.ranges.room.fits)
 
 pub overflow_mul-rise : goal.overflow_mul-rise
 overflow_mul-rise c =
-    let s = c in
-    omega (arith, climb-most _ _ _ s.requires s.ranges.room.fits)
+    omega (arith, climb-most _ _ _ c.requires c.ranges.room.fits)
 
 pub overflow_add-p : goal.overflow_add-p
 overflow_add-p c =
-    let s = c in
-    omega (arith, division-fits _ _ _ s.requires s.ranges.room.fits)
+    omega (arith, division-fits _ _ _ c.requires c.ranges.room.fits)
 
 pub rounded_down-requires : goal.rounded_down-requires
 rounded_down-requires c =
-    let s = c in
-    (omega arith, division-fits _ _ _ s.requires s.ranges.room.fits)
+    (omega arith, division-fits _ _ _ c.requires c.ranges.room.fits)

@@ -9,5 +9,4 @@ returns-then-not-good c = rw (← c.direction_holds.ensures, ← c.limits_hold.e
 pub returns : goal.returns
 unfolding room_answer
 returns c =
-    let t = c in
-    rw (c.room_of.ensures, ← t.direction_holds.ensures, ← t.limits_hold.ensures, c.if-not-good.false)
+    rw (c.room_of.ensures, ← c.direction_holds.ensures, ← c.limits_hold.ensures, c.if-not-good.false)

@@ -11,6 +11,5 @@ use Rattle.columns.proofs.number_line.Goals as goal
 pub returns : goal.returns
 unfolding number_line
 returns c =
-    let e = c in
-    let p = number (nothing 10 (replicate 10 0) refl) 9 (pos e.args.n) (lit≤ tt) e.put_number.ensures in
+    let p = number (nothing 10 (replicate 10 0) refl) 9 (pos c.args.n) (lit≤ tt) c.put_number.ensures in
     whole (byte p 10 (lit≤ tt)) (lit≤ tt)

@@ -12,7 +12,7 @@ pub loop-i-init : goal.loop-i-init
 loop-i-init c = simp length-set (begin _ _ _ c.args.cell.now refl (omega arith))
 
 pub loop-i-preserved : goal.loop-i-preserved
-loop-i-preserved c = let t = c in step _ _ _ t.loop-i.invariant t.loop-i-test.true _ c.next_column-c.ensures
+loop-i-preserved c = step _ _ _ c.loop-i.invariant c.loop-i-test.true _ c.next_column-c.ensures
 
 pub shape_of-cell : goal.shape_of-cell
 shape_of-cell c = c.loop-i.invariant.long ∙ simp length-set

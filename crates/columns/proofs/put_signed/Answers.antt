@@ -14,7 +14,4 @@ overflow_add-above_zero c =
 
 pub returns : goal.returns
 returns c =
-    let p = c in
-    let a = p in
-    let s = a in
-    rw (a.below_zero-below.ensures, a.above_zero.ensures, to_z-of_z s.ranges.z, text-is s.args.width s.args.z) at p.put_at.ensures
+    rw (c.below_zero-below.ensures, c.above_zero.ensures, to_z-of_z c.ranges.z, text-is c.args.width c.args.z) at c.put_at.ensures

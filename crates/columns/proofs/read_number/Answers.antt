@@ -11,10 +11,10 @@ pub returns-then-text-i : goal.returns-then-text-i
 returns-then-text-i c = done c.loop-i.invariant (rw length-take (omega arith))
 
 pub next-f-requires : goal.next-f-requires
-next-f-requires c = let t = c in value-small t.loop-i.invariant t.loop-i-test.true
+next-f-requires c = value-small c.loop-i.invariant c.loop-i-test.true
 
 pub loop-i-preserved : goal.loop-i-preserved
-loop-i-preserved c = let e = c in step e.loop-i.invariant e.loop-i-test.true e.if-text-i.false _ c.next-f.ensures
+loop-i-preserved c = step c.loop-i.invariant c.loop-i-test.true c.if-text-i.false _ c.next-f.ensures
 
 pub returns : goal.returns
 returns c = done c.loop-i.invariant (rw length-take (omega arith))

@@ -11,10 +11,8 @@ piece_at-requires c = omega (arith, c.smaller-most.ensures)
 
 pub loop-i-preserved : goal.loop-i-preserved
 loop-i-preserved c =
-    let t = c in
-    step _ t.loop-i.invariant (rw t.smaller-most.ensures at t.loop-i-test.true) _ c.piece_at.ensures
+    step _ c.loop-i.invariant (rw c.smaller-most.ensures at c.loop-i-test.true) _ c.piece_at.ensures
 
 pub returns : goal.returns
 returns c =
-    let l = c in
-    rw (done _ l.requires l.loop-i.invariant (rw l.smaller-most.ensures at c.loop-i-test.false))
+    rw (done _ c.requires c.loop-i.invariant (rw c.smaller-most.ensures at c.loop-i-test.false))

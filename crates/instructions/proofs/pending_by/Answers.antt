@@ -6,9 +6,8 @@ use Rattle.instructions.proofs.pending_by.Goals as goal
 pub returns-then-p-time : goal.returns-then-p-time
 unfolding pending_by
 returns-then-p-time c =
-    let i = c in
-    let a = i.args in
-    rw (i.if-p.true, le-leb a.p.at a.time i.if-p-time.true) c.effective_state.ensures
+    let a = c.args in
+    rw (c.if-p.true, le-leb a.p.at a.time c.if-p-time.true) c.effective_state.ensures
 
 pub returns-then-p : goal.returns-then-p
 unfolding pending_by
@@ -19,8 +18,7 @@ returns-then-p c =
 pub returns-then-is_late : goal.returns-then-is_late
 unfolding pending_by
 returns-then-is_late c =
-    let i = c in
-    rw (i.if-p.false, ← i.is_late.ensures, i.if-is_late.true) c.rejected_state.ensures
+    rw (c.if-p.false, ← c.is_late.ensures, c.if-is_late.true) c.rejected_state.ensures
 
 pub returns : goal.returns
 unfolding pending_by

@@ -15,8 +15,7 @@ returns-then-closed-gt8 c = rw (lt-leb c.args.closed 8 c.if-closed-gt8.true)
 
 pub returns : goal.returns
 returns c =
-    let d = c in
-    let a = d.args in
+    let a = c.args in
     to_z-of_z {w = w64} {z = c.direction_of.result.next.start} (search rules)
-    ∙ ap (λ (x : Direction). x.next.start) d.direction_of.ensures
-    ∙ sym (next-start-is a.q a.closed a.entries d.if-closed-gt8.false)
+    ∙ ap (λ (x : Direction). x.next.start) c.direction_of.ensures
+    ∙ sym (next-start-is a.q a.closed a.entries c.if-closed-gt8.false)

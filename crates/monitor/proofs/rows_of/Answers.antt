@@ -8,8 +8,7 @@ loop-i-init c = begin _ _ _ _ _ refl
 
 pub loop-i-preserved : goal.loop-i-preserved
 loop-i-preserved c =
-    let a = c in
-    step _ _ _ _ a.loop-i.invariant _ a.table_of.ensures _ a.loop-i-test.true _ c.judge.ensures
+    step _ _ _ _ c.loop-i.invariant _ c.table_of.ensures _ c.loop-i-test.true _ c.judge.ensures
 
 pub returns : goal.returns
 returns c = done _ _ _ _ c.loop-i.invariant c.loop-i-test.false

@@ -43,6 +43,5 @@ loop-i-preserved c =
 
 pub returns : goal.returns
 returns c =
-    let l = c in
     let z = c.less_shortfall in
-    rw (to_z-of_z {z = z.result} (sfits_of z.type_inv), z.ensures) (done _ _ _ _ _ _ l.loop-i.invariant c.loop-i-test.false)
+    rw (to_z-of_z {z = z.result} (sfits_of z.type_inv), z.ensures) (done _ _ _ _ _ _ c.loop-i.invariant c.loop-i-test.false)

@@ -34,8 +34,7 @@ loop-i-preserved c = step _ _ _ c.loop-i.invariant c.loop-i-test.true _ c.row_of
 pub returns : goal.returns
 unfolding table_of
 returns c =
-    let l = c in
-    let a = l.args in
-    let d = done _ _ _ l.loop-i.invariant l.loop-i-test.false in
+    let a = c.args in
+    let d = done _ _ _ c.loop-i.invariant c.loop-i-test.false in
     let z = c.less_shortfall in
     rw (to_z-of_z {z = z.result} (sfits_of z.type_inv), z.ensures, d.1, d.0, start_is a.rev a.er (of_period a.bounds) 9)

@@ -12,5 +12,4 @@ limit_broken-requires-2 c = rw c.power_of-import.ensures (search rules)
 pub returns : goal.returns
 unfolding limits_broken
 returns c =
-    let p = c in
-    rw (c.limit_broken-2.ensures, c.limit_broken.ensures, p.power_of-import.ensures, p.power_of-export.ensures) (search rules)
+    rw (c.limit_broken-2.ensures, c.limit_broken.ensures, c.power_of-import.ensures, c.power_of-export.ensures) (search rules)

@@ -19,13 +19,11 @@ pub overflow_cast-readings : goal.overflow_cast-readings
 overflow_cast-readings c = omega (arith, c.type_inv.readings c.loop-i.i)
 
 pub put_line-requires : goal.put_line-requires
-put_line-requires c = let t = c in fits _ _ t.loop-i.invariant t.loop-i-test.true
+put_line-requires c = fits _ _ c.loop-i.invariant c.loop-i-test.true
 
 pub loop-i-preserved : goal.loop-i-preserved
 loop-i-preserved c =
-    let w = c in
-    let t = w in
-    step _ _ t.loop-i.invariant t.loop-i-test.true w.put_line.ensures
+    step _ _ c.loop-i.invariant c.loop-i-test.true c.put_line.ensures
 
 pub shape_of-page : goal.shape_of-page
 shape_of-page c = long _ _ c.loop-i.invariant

@@ -11,8 +11,7 @@ loop-i-smaller c = omega arith
 
 pub loop-i-preserved : goal.loop-i-preserved
 loop-i-preserved c =
-    let t = c in
-    rw (c.smaller-least.ensures, c.larger-most.ensures) (step _ t.loop-i.invariant t.loop-i-test.true)
+    rw (c.smaller-least.ensures, c.larger-most.ensures) (step _ c.loop-i.invariant c.loop-i-test.true)
 
 pub returns : goal.returns
 returns c = done _ c.loop-i.invariant c.loop-i-test.false

@@ -5,13 +5,10 @@ use Rattle.host.proofs.machine_bytes.fields_in.Goals as goal
 pub returns : goal.returns
 unfolding fields_in
 returns c =
-    let issue = c in
-    let last = issue in
-    let accepted = last in
     rw (
       c.u64_at-at.ensures,
-      issue.u64_at-issue.ensures,
-      last.u64_at-last.ensures,
-      accepted.u32_at-accepted.ensures,
-      accepted.u32_at-state.ensures,
+      c.u64_at-issue.ensures,
+      c.u64_at-last.ensures,
+      c.u32_at-accepted.ensures,
+      c.u32_at-state.ensures,
     )

@@ -9,16 +9,10 @@ use Rattle.host.proofs.machine_bytes.put_fields.Goals as goal
 pub returns : goal.returns
 unfolding field_bytes
 returns c =
-    let at-put = c in
-    let issue-put = at-put in
-    let last-put = issue-put in
-    let accepted-put = last-put in
-    let state-put = accepted-put in
-    let s = state-put in
-    let f = s.args.f in
-    let p₁ = more (nothing 32 s.args.bytes.now s.requires) (bytes_of 4 f.state) 4 (length-bytes 4 f.state) (lit≤ tt) state-put.put_u32.ensures in
-    let p₂ = more p₁ (bytes_of 4 f.accepted) 4 (length-bytes 4 f.accepted) (lit≤ tt) accepted-put.put_u32-2.ensures in
-    let p₃ = more p₂ (bytes_of 8 f.last) 8 (length-bytes 8 f.last) (lit≤ tt) last-put.put_u64.ensures in
-    let p₄ = more p₃ (bytes_of 8 f.issue) 8 (length-bytes 8 f.issue) (lit≤ tt) issue-put.put_u64-2.ensures in
-    let p₅ = more p₄ (bytes_of 8 f.at) 8 (length-bytes 8 f.at) (lit≤ tt) at-put.put_u64-3.ensures in
+    let f = c.args.f in
+    let p₁ = more (nothing 32 c.args.bytes.now c.requires) (bytes_of 4 f.state) 4 (length-bytes 4 f.state) (lit≤ tt) c.put_u32.ensures in
+    let p₂ = more p₁ (bytes_of 4 f.accepted) 4 (length-bytes 4 f.accepted) (lit≤ tt) c.put_u32-2.ensures in
+    let p₃ = more p₂ (bytes_of 8 f.last) 8 (length-bytes 8 f.last) (lit≤ tt) c.put_u64.ensures in
+    let p₄ = more p₃ (bytes_of 8 f.issue) 8 (length-bytes 8 f.issue) (lit≤ tt) c.put_u64-2.ensures in
+    let p₅ = more p₄ (bytes_of 8 f.at) 8 (length-bytes 8 f.at) (lit≤ tt) c.put_u64-3.ensures in
     whole p₅ (lit≤ tt)

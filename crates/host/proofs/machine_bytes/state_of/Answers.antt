@@ -10,24 +10,17 @@ returns-then-state-eq0 c = rw (eq-eqb c.args.f.state 0 c.if-state-eq0.true)
 pub returns-then-state-eq1 : goal.returns-then-state-eq1
 unfolding state_of
 returns-then-state-eq1 c =
-    let one = c in
-    let zero = one in
-    let state = zero.args.f.state in
-    rw (ne_eqb state 0 zero.if-state-eq0.false, eq-eqb state 1 one.if-state-eq1.true, c.pending_of.ensures)
+    let state = c.args.f.state in
+    rw (ne_eqb state 0 c.if-state-eq0.false, eq-eqb state 1 c.if-state-eq1.true, c.pending_of.ensures)
 
 pub returns-then-state-eq2 : goal.returns-then-state-eq2
 unfolding state_of
 returns-then-state-eq2 c =
-    let one = c in
-    let zero = one in
-    let state = zero.args.f.state in
-    rw (ne_eqb state 0 zero.if-state-eq0.false, ne_eqb state 1 one.if-state-eq1.false, eq-eqb state 2 c.if-state-eq2.true)
+    let state = c.args.f.state in
+    rw (ne_eqb state 0 c.if-state-eq0.false, ne_eqb state 1 c.if-state-eq1.false, eq-eqb state 2 c.if-state-eq2.true)
 
 pub returns : goal.returns
 unfolding state_of
 returns c =
-    let two = c in
-    let one = two in
-    let zero = one in
-    let state = zero.args.f.state in
-    rw (ne_eqb state 0 zero.if-state-eq0.false, ne_eqb state 1 one.if-state-eq1.false, ne_eqb state 2 two.if-state-eq2.false, c.pending_of-2.ensures)
+    let state = c.args.f.state in
+    rw (ne_eqb state 0 c.if-state-eq0.false, ne_eqb state 1 c.if-state-eq1.false, ne_eqb state 2 c.if-state-eq2.false, c.pending_of-2.ensures)
