@@ -5,9 +5,10 @@ usage: tools/respell.py, at the top, once, after the port's script.
 
 Every name that a file of specs/ or proofs/ declares and that begins in lower case and has a capital inside, as 'lowBound',
 is spelled 'low_bound', wherever it stands as a whole word: in .antt files, in clauses and 'ghost use' items of .rt files, in
-comments, and in the pages. A part of a name behind a dash is a word of its own, as in 'orBlank-is'. Types, modules and
-functions of src/ keep their names, and so do Q, REV and ER, the guidance's own symbols. A private lemma that had the new name
-of its definition gets '_lem' behind it. It prints each pair, and each new name that a file had already.
+comments, and in the pages. A part of a name behind a dash is a word of its own, as in 'orBlank-is'. A field of a record of
+specs/ has no dash, as 'totals_fit' for 'totals-fit', but for 'on-accepted-start', which would fall together with a definition.
+Types, modules and functions of src/ keep their names, and so do Q, REV and ER, the guidance's own symbols. A private lemma that
+had the new name of its definition gets '_lem' behind it. It prints each pair, and each new name that a file had already.
 """
 
 import glob
@@ -16,7 +17,7 @@ import sys
 
 WORD = re.compile(r"[^\s(){}.;,@\"«»\[\]`/:|*⟨⟩⌜⌝]+")
 DECLARED = re.compile(r"^\s*(?:(?:abbrev|unfoldable|pub|data|record|rule)\s+)*([^\s(){}:=;,λ]+)(?:\s+[({].*?)?\s+:(?:\s|$)")
-SYMBOLS = {"REV", "ER", "is_T"}
+SYMBOLS = {"REV", "ER", "is_T", "on-accepted-start"}
 # a lemma whose definition gets its name
 LEMMAS = {
     "crates/energy/proofs/Shares.antt": "share_from",
@@ -45,8 +46,13 @@ def main():
     for path in antt_files():
         for line in open(path, encoding="utf-8"):
             m = DECLARED.match(line)
-            if m and m.group(1) not in SYMBOLS and respelled(m.group(1)) != m.group(1):
-                table[m.group(1)] = respelled(m.group(1))
+            if not m or m.group(1) in SYMBOLS:
+                continue
+            new = respelled(m.group(1))
+            if "/specs/" in path and line.startswith(" "):
+                new = new.replace("-", "_")
+            if new != m.group(1):
+                table[m.group(1)] = new
     clash = []
     files = antt_files() + sorted(glob.glob("crates/*/src/*.rt")) + ["README.md"] + sorted(glob.glob("docs/**/*.md", recursive=True))
     for path in files:

@@ -25,10 +25,10 @@ module _ (direction : ℕ) (l : Limits) (ps : Points) (limit : ℕ) where
   unfolding capability_or_limit
   limit-most = omega arith
 
-  with-energy : (e : Energies) → energies_rule e ≡ true → 0 < e.offer → 0 < e.bid
+  with_energy : (e : Energies) → energies_rule e ≡ true → 0 < e.offer → 0 < e.bid
       → quantity_answer direction 1 e l ps limit ≡ quantity_by01 direction l ps limit
   unfolding quantity_answer quantity_of quantity_by01
-  with-energy e rule offer bid =
+  with_energy e rule offer bid =
       let some : 0 < energy_of direction e = by-test (λ (n : ℕ). 0 < n) (eqb direction 1) e.offer e.bid (λ _. offer) (λ _. bid) in
       rw (and-true good, rule, ne_eqb (energy_of direction e) 0 (λ none. omega (arith, none)))
 
@@ -49,23 +49,23 @@ module _ (direction : ℕ) (l : Limits) (ps : Points) (limit : ℕ) where
         rw (← given-value causes (quantity_of direction available e l ps limit) kw h)
         (by-test (λ (n : ℕ). n ≤ most) (no_quantity direction available e) 0 most (λ _. omega arith) (λ _. omega arith))
 
-    never-above : (quantity_by01 direction l ps limit ≡ given most) × (kw ≤ most)
+    never_above : (quantity_by01 direction l ps limit ≡ given most) × (kw ≤ most)
     unfolding quantity_by01
-    never-above = (rw data-good, kw-most)
+    never_above = (rw data-good, kw-most)
 
     -- so it fits where the limit does
-    pub quantity-most : kw ≤ limit
-    quantity-most = omega (arith, kw-most, limit-most)
+    pub quantity_most : kw ≤ limit
+    quantity_most = omega (arith, kw-most, limit-most)
 
-  own-energy : (available : ℕ) (e f : Energies) → energies_rule e ≡ true → energies_rule f ≡ true → energy_of direction e ≡ energy_of direction f
+  own_energy : (available : ℕ) (e f : Energies) → energies_rule e ≡ true → energies_rule f ≡ true → energy_of direction e ≡ energy_of direction f
       → quantity_answer direction available e l ps limit ≡ quantity_answer direction available f l ps limit
   unfolding quantity_answer quantity_of
-  own-energy available e f e-rule f-rule same = rw (e-rule, f-rule, same)
+  own_energy available e f e-rule f-rule same = rw (e-rule, f-rule, same)
 
 pub quantity-laws : (direction : ℕ) (l : Limits) (ps : Points) (limit : ℕ) → QuantityLaws direction l ps limit
 quantity-laws direction l ps limit =
     record {
-      with-energy = with-energy direction l ps limit;
-      never-above = never-above direction l ps limit;
-      own-energy = own-energy direction l ps limit;
+      with_energy = with_energy direction l ps limit;
+      never_above = never_above direction l ps limit;
+      own_energy = own_energy direction l ps limit;
     }

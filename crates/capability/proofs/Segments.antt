@@ -25,7 +25,7 @@ segment p q ps e =
       farther = ltb-true _ _ higher.0;
       no_less = leb-true _ _ higher.1;
       room_most = leb-true _ _ range.0;
-      capability-most = leb-true _ _ range.1;
+      capability_most = leb-true _ _ range.1;
     }
 
 -- ---- the loop: the room is past the point p, and the points from q on decide

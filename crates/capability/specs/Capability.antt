@@ -114,4 +114,4 @@ pub record Segment (p q : Point) : Type 0 where
   pub farther : p.room < q.room
   pub no_less : p.capability ≤ q.capability
   pub room_most : q.room ≤ 4000000
-  pub capability-most : q.capability ≤ 4000000
+  pub capability_most : q.capability ≤ 4000000

@@ -69,13 +69,13 @@ quantity_by01 direction l ps limit =
 -- and submitted limit, good or bad.
 pub record QuantityLaws (direction : ℕ) (l : Limits) (ps : Points) (limit : ℕ) : Type 0 where
   -- with both energies above 0, and neither above its limit, the quantity of an available unit is 01's, and so is its refusal
-  pub with-energy : (e : Energies) → energies_rule e ≡ true → 0 < e.offer → 0 < e.bid
+  pub with_energy : (e : Energies) → energies_rule e ≡ true → 0 < e.offer → 0 < e.bid
       → quantity_answer direction 1 e l ps limit ≡ quantity_by01 direction l ps limit
   -- a quantity is never above 01's, which is given wherever one is
-  pub never-above : (available : ℕ) (e : Energies) (kw : ℕ) → quantity_answer direction available e l ps limit ≡ given kw
+  pub never_above : (available : ℕ) (e : Energies) (kw : ℕ) → quantity_answer direction available e l ps limit ≡ given kw
       → (quantity_by01 direction l ps limit ≡ given (capability_or_limit direction l ps limit))
       × (kw ≤ capability_or_limit direction l ps limit)
   -- only the direction's own energy matters, as far as neither is above its limit
-  pub own-energy : (available : ℕ) (e f : Energies) → energies_rule e ≡ true → energies_rule f ≡ true
+  pub own_energy : (available : ℕ) (e f : Energies) → energies_rule e ≡ true → energies_rule f ≡ true
       → energy_of direction e ≡ energy_of direction f
       → quantity_answer direction available e l ps limit ≡ quantity_answer direction available f l ps limit

@@ -57,14 +57,14 @@ module _ (table : List ℕ) (keeps : table_rule table ≡ true) where
   same-multiple factor d =
       up_same factor (entry_for table d) 11100 (containment_share d).numerator (containment_share d).denominator (omega arith) (positive d) (entry-for d)
 
-  pub same-response : (mw d : ℕ) → response_by_table table mw d ≡ response mw containment_curve d
+  pub same_response : (mw d : ℕ) → response_by_table table mw d ≡ response mw containment_curve d
   unfolding response
-  same-response mw d = same-multiple (1000 * mw) d
+  same_response mw d = same-multiple (1000 * mw) d
 
   same-service : (mw : ℕ) (c : Curve) (d : ℕ) → service_by_table table mw c d ≡ response mw c d
   same-service mw c d =
       by-test (λ (n : ℕ). n ≡ response mw c d) (is_containment c) (response_by_table table mw d) (response mw c d)
-      (λ t. same-response mw d ∙ stock-response c t mw d) (λ t. refl)
+      (λ t. same_response mw d ∙ stock-response c t mw d) (λ t. refl)
 
   same-bound : (deviation : ℕ → ℕ) (q : Quantities) (cs : Curves) (rs : List ℕ) → bound_by_table table deviation q cs rs ≡ bound deviation q cs rs
   unfolding bound
@@ -84,15 +84,15 @@ unfolding share_from
 table-serves table keeps =
     record {
       entry = entry table keeps;
-      entry-200 = let e : get_or table 200 0 * 300 ≡ 11100 * 15000 = entry table keeps 200 (omega arith) in omega arith;
+      entry_200 = let e : get_or table 200 0 * 300 ≡ 11100 * 15000 = entry table keeps 200 (omega arith) in omega arith;
       only = λ other kept.
           ext_get_or 0 other table (long other kept ∙ sym (long table keeps))
           (λ d h.
           let near : d ≤ 500 = omega (arith, long other kept) in
           eq_of_mul-eq-mul_right (containment_share d).denominator (positive d) (get_or other d 0) (get_or table d 0)
           (entry other kept d near ∙ sym (entry table keeps d near)));
-      same-response = same-response table keeps;
-      same-bounds = λ low high cs rs i.
+      same_response = same_response table keeps;
+      same_bounds = λ low high cs rs i.
           record { low = same-bound table keeps low_deviation low cs rs i; high = same-bound table keeps high_deviation high cs rs i };
     }
 

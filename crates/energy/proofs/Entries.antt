@@ -84,7 +84,7 @@ module _ (factor : ℕ) where
       fill-fits s long =
           record {
             there = omega (arith, s.there);
-            parts-fit = omega (arith, found-is keeps 500 (omega arith), added-le 500, s.factor-most);
+            parts_fit = omega (arith, found-is keeps 500 (omega arith), added-le 500, s.factor_most);
             room = λ d l m. omega (arith, flat-at d l, added-le d, a.above d (omega arith), s.room d);
           }
 

@@ -38,7 +38,7 @@ module _ (first step from end : ℕ) (before : List ℕ) where
       pub next-parts-fit : parts + step < 2 ^ 64
       next-parts-fit =
           let l : d - from + 1 ≤ end - from = omega (arith, f.from_le) in
-          omega (arith, f.parts_are, mul-le-mul_left step l, fits.parts-fit)
+          omega (arith, f.parts_are, mul-le-mul_left step l, fits.parts_fit)
 
       pub sum_fits : get_or table d 0 + parts / 2 ^ 32 < 2 ^ 32
       sum_fits = rw (f.parts_are, f.so_far.above d (omega arith)) (fits.room d f.from_le h)

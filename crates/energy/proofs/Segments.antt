@@ -27,14 +27,14 @@ step factor p q = rise factor p q * 2 ^ 32 / width p q
 module _ {factor : ℕ} {p q : Point} {end : ℕ} {before : List ℕ} (h : SegmentFits factor p q end before) where
   pub top-le : factor * p.share + rise factor p q ≤ 1000000000
   top-le =
-      let s : p.share + (q.share - p.share) ≤ 1000 = omega (arith, h.no_less, h.share-most) in
-      omega (arith, mul-add factor p.share (q.share - p.share), mul-le-mul h.factor-most s)
+      let s : p.share + (q.share - p.share) ≤ 1000 = omega (arith, h.no_less, h.share_most) in
+      omega (arith, mul-add factor p.share (q.share - p.share), mul-le-mul h.factor_most s)
 
   added-at : (d : ℕ) → p.deviation ≤ d → d < q.deviation → wholes (first (factor * p.share)) (step factor p q) (d - p.deviation) ≡ response_to factor (between p q d)
   added-at d l m =
       let w : 0 < width p q = omega (arith, h.farther) in
-      let narrow : width p q - 1 ≤ 3000 = omega (arith, h.deviation-most) in
-      let near : d - p.deviation ≤ 3000 = omega (arith, h.deviation-most) in
+      let narrow : width p q - 1 ≤ 3000 = omega (arith, h.deviation_most) in
+      let near : d - p.deviation ≤ 3000 = omega (arith, h.deviation_most) in
       line-value (2 ^ 32) (factor * p.share) (rise factor p q) (width p q) (d - p.deviation) w (omega (arith, mul-le-mul narrow near))
       ∙ (rw (
         mul-add factor (p.share * width p q) ((q.share - p.share) * (d - p.deviation)),
@@ -45,14 +45,14 @@ module _ {factor : ℕ} {p q : Point} {end : ℕ} {before : List ℕ} (h : Segme
   added-le : (d : ℕ) → p.deviation ≤ d → d < q.deviation → wholes (first (factor * p.share)) (step factor p q) (d - p.deviation) ≤ 1000 * factor
   added-le d l m =
       rw (added-at d l m)
-      (between_le factor p q d (record { farther = h.farther; no_less = h.no_less }) (record { deviation-le = h.deviation-most; share-le = h.share-most }) l m)
+      (between_le factor p q d (record { farther = h.farther; no_less = h.no_less }) (record { deviation-le = h.deviation_most; share-le = h.share_most }) l m)
 
   pub fill-fits : FillFits (first (factor * p.share)) (step factor p q) p.deviation (min end q.deviation) before
   fill-fits =
       let x : min end q.deviation - p.deviation ≤ width p q = omega arith in
       record {
         there = omega (arith, h.there);
-        parts-fit = omega (arith, top-le, mul-le-mul_left (step factor p q) x, div-mul-le_self (rise factor p q * 2 ^ 32) (width p q));
+        parts_fit = omega (arith, top-le, mul-le-mul_left (step factor p q) x, div-mul-le_self (rise factor p q * 2 ^ 32) (width p q));
         room = λ d l m. omega (arith, h.room d l, added-le d l (omega arith));
       }
 

@@ -45,11 +45,11 @@ module _ (c : Curve) (factor end : ℕ) (before : List ℕ) where
           let r = next-rises c f.reached h there in
           let q = next-range c f.reached h there in
           record {
-            factor-most = s.factor-most;
+            factor_most = s.factor_most;
             farther = r.farther;
             no_less = r.no_less;
-            deviation-most = q.deviation-le;
-            share-most = q.share-le;
+            deviation_most = q.deviation-le;
+            share_most = q.share-le;
             there = omega (arith, f.long, s.there);
             room = λ d l. omega (arith, f.so_far.above d (omega arith), s.room d);
           }
@@ -82,7 +82,7 @@ module _ (c : Curve) (factor end : ℕ) (before : List ℕ) where
     fill-fits s =
         record {
           there = omega (arith, f.long, s.there);
-          parts-fit = omega (arith, flat-le, s.factor-most);
+          parts_fit = omega (arith, flat-le, s.factor_most);
           room = λ d l m. omega (arith, flat-at d, flat-le, f.so_far.above d (omega arith), s.room d);
         }
 

@@ -49,7 +49,7 @@ running-sums low high cs lows highs rs l m place =
 pub zeros-fit : (q : Quantities) (cs : Curves) (most : ℕ) → Q q ≤ 1000 → curves_rule cs ≡ true → most ≤ 3000 → DirectionFits q cs most (replicate 3001 0)
 zeros-fit q cs most few rules near =
     record {
-      quantity-most = few;
+      quantity_most = few;
       rules = rules;
       there = omega arith;
       room = λ d. omega (arith, zeros-at 3001 d);
@@ -66,8 +66,8 @@ module _ {most : Deviations} {rs : List ℕ} (h : WithinRange most rs) where
     pub covered : length lows ≡ 3001 → length highs ≡ 3001 → Covered lows highs rs
     covered l m =
         record {
-          low-there = omega (arith, low-le, h.low-most);
-          high-there = omega (arith, high_le, h.high-most);
+          low_there = omega (arith, low-le, h.low_most);
+          high_there = omega (arith, high_le, h.high_most);
           count_most = h.count_most;
         }
 
@@ -85,11 +85,11 @@ module _ (low high : Quantities) (cs : Curves) (rs : List ℕ) where
   pub sums-most : BeforeReadings low high cs → (sums : Sums) → sums ≡ response_sums low high cs rs →
       (sums.low ≤ 1000000000 * length rs) × (sums.high ≤ 1000000000 * length rs)
   sums-most b sums same =
-      let low-most : 1000000 * Q low ≤ 1000000000 = omega (arith, b.low-most) in
-      let high-most : 1000000 * Q high ≤ 1000000000 = omega (arith, b.high-most) in
+      let low_most : 1000000 * Q low ≤ 1000000000 = omega (arith, b.low_most) in
+      let high_most : 1000000 * Q high ≤ 1000000000 = omega (arith, b.high_most) in
       rw same (
-        omega (arith, response-sum-le low cs b.curves low_deviation rs, mul-le-mul_right (length rs) low-most),
-        omega (arith, response-sum-le high cs b.curves high_deviation rs, mul-le-mul_right (length rs) high-most),
+        omega (arith, response-sum-le low cs b.curves low_deviation rs, mul-le-mul_right (length rs) low_most),
+        omega (arith, response-sum-le high cs b.curves high_deviation rs, mul-le-mul_right (length rs) high_most),
       )
 
   pub wrong-count : is_period_count (length rs) ≡ false → refused 6 ≡ from_readings low high cs rs

@@ -65,13 +65,13 @@ bounds_by_table table low high cs rs =
 pub record Serves (table : List ℕ) : Type 0 where
   -- entry d is 11,100 times the share at d
   pub entry : (d : ℕ) → d ≤ 500 → get_or table d 0 * (containment_share d).denominator ≡ 11100 * (containment_share d).numerator
-  pub entry-200 : get_or table 200 0 ≡ 555000
+  pub entry_200 : get_or table 200 0 ≡ 555000
   -- there is no other such table
   pub only : (other : List ℕ) → table_rule other ≡ true → other ≡ table
   -- the response by table is that by interpolation, for every quantity, also above 1,000 MW, and every deviation
-  pub same-response : (mw d : ℕ) → response_by_table table mw d ≡ response mw containment_curve d
+  pub same_response : (mw d : ℕ) → response_by_table table mw d ≡ response mw containment_curve d
   -- and so are the bounds, for every list of readings
-  pub same-bounds : (low high : Quantities) (cs : Curves) (rs : List ℕ) → bounds_by_table table low high cs rs ≡ bounds_of low high cs rs
+  pub same_bounds : (low high : Quantities) (cs : Curves) (rs : List ℕ) → bounds_by_table table low high cs rs ≡ bounds_of low high cs rs
 
 abbrev pub TableServes : Type 0
 TableServes = (table : List ℕ) → table_rule table ≡ true → Serves table

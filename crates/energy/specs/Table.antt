@@ -46,30 +46,30 @@ wholes first step x = (first + step * x) / 2 ^ 32
 -- `fill`: the entries are there, the parts stay a u64, and what is added fits
 pub record FillFits (first step from end : ℕ) (table : List ℕ) : Type 0 where
   pub there : end ≤ length table
-  pub parts-fit : first + step * (end - from) < 2 ^ 64
+  pub parts_fit : first + step * (end - from) < 2 ^ 64
   pub room : (d : ℕ) → from ≤ d → d < end → get_or table d 0 + wholes first step (d - from) < 2 ^ 32
 
 -- `fill_segment`: a factor of which 1,000 per mille are a u32, two points as the rule has them, and room from the first on
 pub record SegmentFits (factor : ℕ) (p q : Point) (end : ℕ) (table : List ℕ) : Type 0 where
-  pub factor-most : factor ≤ 1000000
+  pub factor_most : factor ≤ 1000000
   pub farther : p.deviation < q.deviation
   pub no_less : p.share ≤ q.share
-  pub deviation-most : q.deviation ≤ 3000
-  pub share-most : q.share ≤ 1000
+  pub deviation_most : q.deviation ≤ 3000
+  pub share_most : q.share ≤ 1000
   pub there : end ≤ length table
   pub room : (d : ℕ) → p.deviation ≤ d → get_or table d 0 + 1000 * factor < 2 ^ 32
 
 -- `fill_by_steps` and `fill_by_table`, and for 1,000 times its MW `fill_service`: a curve that keeps its rule, and room for 1,000 per
 -- mille of such a factor
 pub record ServiceFits (factor : ℕ) (c : Curve) (end : ℕ) (table : List ℕ) : Type 0 where
-  pub factor-most : factor ≤ 1000000
+  pub factor_most : factor ≤ 1000000
   pub rule : curve_rule c ≡ true
   pub there : end ≤ length table
   pub room : Room (1000 * factor) table
 
 -- `fill_by_entries`: a table of the stock containment curve that has the entries, and room for the same
 pub record EntriesFit (factor : ℕ) (entries : List ℕ) (end : ℕ) (table : List ℕ) : Type 0 where
-  pub factor-most : factor ≤ 1000000
+  pub factor_most : factor ≤ 1000000
   pub rule : table_rule entries ≡ true
   pub has : end ≤ 501
   pub there : end ≤ length table
@@ -77,7 +77,7 @@ pub record EntriesFit (factor : ℕ) (entries : List ℕ) (end : ℕ) (table : L
 
 -- `fill_direction`: at most 1,000 MW, curves that keep their rule, and room for all of it
 pub record DirectionFits (q : Quantities) (cs : Curves) (most : ℕ) (table : List ℕ) : Type 0 where
-  pub quantity-most : Q q ≤ 1000
+  pub quantity_most : Q q ≤ 1000
   pub rules : curves_rule cs ≡ true
   pub there : most < length table
   pub room : Room (1000000 * Q q) table
@@ -93,8 +93,8 @@ table_sums lows highs rs = record { low = table_sum low_deviation lows rs; high 
 
 -- `sum_table`: every deviation is in its table, and the sums stay a u64
 pub record Covered (lows highs rs : List ℕ) : Type 0 where
-  pub low-there : largest_deviation low_deviation rs < length lows
-  pub high-there : largest_deviation high_deviation rs < length highs
+  pub low_there : largest_deviation low_deviation rs < length lows
+  pub high_there : largest_deviation high_deviation rs < length highs
   pub count_most : length rs ≤ 2 ^ 32
 
 abbrev pub response_sums : Quantities → Quantities → Curves → List ℕ → Sums
@@ -103,8 +103,8 @@ response_sums low high cs rs = record { low = response_sum low_deviation low cs 
 -- `sum_responses`: the largest deviations are those of the readings, and neither is above 3,000
 pub record WithinRange (most : Deviations) (rs : List ℕ) : Type 0 where
   pub same : most ≡ largest_deviations rs
-  pub low-most : most.low ≤ 3000
-  pub high-most : most.high ≤ 3000
+  pub low_most : most.low ≤ 3000
+  pub high_most : most.high ≤ 3000
   pub count_most : length rs ≤ 2 ^ 32
 
 -- ---- the sums from the last reading back

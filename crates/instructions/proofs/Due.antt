@@ -123,8 +123,8 @@ module _ (t : ℕ) where
       by (come p q a h e) = rw e (rest (effective s) (effective-rests s))
 
   -- nothing is due after it
-  pub nothing-due : (s : State) → NothingDue t (due_by t s)
-  nothing-due s = by (due s)
+  pub nothing_due : (s : State) → NothingDue t (due_by t s)
+  nothing_due s = by (due s)
     where
       by : Due t s → NothingDue t (due_by t s)
       by (still e n) = rw e n

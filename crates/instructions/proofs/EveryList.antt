@@ -11,8 +11,8 @@ use Rattle.instructions.specs.declared.Machine.{Machine}
 use Rattle.instructions.specs.declared.Event.{Event}
 use Rattle.instructions.specs.Instructions.{fresh, due_by, suits, acted, moved}
 use Rattle.instructions.specs.EveryList.{run, carried_out, delivers, on_accepted_start, AfterEveryList}
-use Rattle.instructions.proofs.Due.{rests-stays, nothing-due, due-twice}
-use Rattle.instructions.proofs.Steps.{noted, after-all, never-falls, tick-carried, tick-adds-nothing}
+use Rattle.instructions.proofs.Due.{rests-stays, nothing_due, due-twice}
+use Rattle.instructions.proofs.Steps.{noted, after-all, never_falls, tick_carried, tick_adds_nothing}
 use Rattle.instructions.proofs.Delivery.{Known, due-known, act-known}
 
 pub record Kept (h : List Event) (m : Machine) : Type 0 where
@@ -27,7 +27,7 @@ keeps h m e k later suited =
     let c = acted t e.action before in
     record {
       known = due-known (h ++ noted e) t t (omega arith) c
-          (act-known h t e.action before (due-known h m.last t later m.state k.known) (nothing-due t m.state) suited);
+          (act-known h t e.action before (due-known h m.last t later m.state k.known) (nothing_due t m.state) suited);
       still = due-twice t t (omega arith) c;
     }
 
@@ -43,10 +43,10 @@ after-every-list events =
     let m = run fresh events in
     let k = kept events in
     record {
-      nothing-due = rw k.still at (nothing-due m.last m.state);
+      nothing_due = rw k.still at (nothing_due m.last m.state);
       on-accepted-start = ap delivers (sym k.still) ∙ k.known.by-later m.last (omega arith);
-      tick-carried = λ time h. tick-carried m time h;
-      tick-adds-nothing = λ time e h l. tick-adds-nothing m time h e l;
-      refused-leaves = λ e number g. ap (or_blank m) g;
-      never-falls = λ more. never-falls more m;
+      tick_carried = λ time h. tick_carried m time h;
+      tick_adds_nothing = λ time e h l. tick_adds_nothing m time h e l;
+      refused_leaves = λ e number g. ap (or_blank m) g;
+      never_falls = λ more. never_falls more m;
     }

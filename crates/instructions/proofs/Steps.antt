@@ -53,9 +53,9 @@ event-later m e = by (steps m e)
     by (left same not) = rw same (omega arith)
     by (done later suited to kept) = rw to later
 
-pub never-falls : (events : List Event) (m : Machine) → m.last ≤ (run m events).last
-never-falls [] m = omega arith
-never-falls (e ∷ events) m = omega (arith, event-later m e, never-falls events (after m e))
+pub never_falls : (events : List Event) (m : Machine) → m.last ≤ (run m events).last
+never_falls [] m = omega arith
+never_falls (e ∷ events) m = omega (arith, event-later m e, never_falls events (after m e))
 
 -- ---- a tick before an event
 module _ (m : Machine) (time : ℕ) (h : m.last ≤ time) where
@@ -63,12 +63,12 @@ module _ (m : Machine) (time : ℕ) (h : m.last ≤ time) where
   unfolding following
   tick_is = rw (le-ltb time m.last h)
 
-  pub tick-carried : carried m (tick_at time) ≡ true
-  tick-carried = ap is_given tick_is
+  pub tick_carried : carried m (tick_at time) ≡ true
+  tick_carried = ap is_given tick_is
 
-  pub tick-adds-nothing : (e : Event) → time ≤ e.time → following (after m (tick_at time)) e ≡ following m e
+  pub tick_adds_nothing : (e : Event) → time ≤ e.time → following (after m (tick_at time)) e ≡ following m e
   unfolding following
-  tick-adds-nothing e l =
+  tick_adds_nothing e l =
       rw (
         le-ltb time m.last h,
         le-ltb e.time time l,

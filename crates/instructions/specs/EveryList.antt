@@ -110,16 +110,16 @@ tick_at time = record { time = time; action = Tick }
 -- of `m`, the machine after the events
 pub record HoldsAfter (events : List Event) (m : Machine) : Type 0 where
   -- 1. nothing that is due by the last time is left undone
-  pub nothing-due : NothingDue m.last m.state
+  pub nothing_due : NothingDue m.last m.state
   -- 2. by the last time the unit delivers exactly when it does so on an accepted start
   pub on-accepted-start : delivers m.state ≡ on_accepted_start m.last (carried_out fresh events)
   -- 3. a tick at a time from the last one to an event's is carried out, and the event then gets the same answer: the same number,
   -- or none and the same machine afterwards
-  pub tick-carried : (time : ℕ) → m.last ≤ time → carried m (tick_at time) ≡ true
-  pub tick-adds-nothing : (time : ℕ) (e : Event) → m.last ≤ time → time ≤ e.time → following (after m (tick_at time)) e ≡ following m e
+  pub tick_carried : (time : ℕ) → m.last ≤ time → carried m (tick_at time) ≡ true
+  pub tick_adds_nothing : (time : ℕ) (e : Event) → m.last ≤ time → time ≤ e.time → following (after m (tick_at time)) e ≡ following m e
   -- 4. a refused event leaves the machine, and the last time never falls
-  pub refused-leaves : (e : Event) (number : ℕ) → following m e ≡ refused number → after m e ≡ m
-  pub never-falls : (more : List Event) → m.last ≤ (run m more).last
+  pub refused_leaves : (e : Event) (number : ℕ) → following m e ≡ refused number → after m e ≡ m
+  pub never_falls : (more : List Event) → m.last ≤ (run m more).last
 
 abbrev pub AfterEveryList : List Event → Type 0
 AfterEveryList events = HoldsAfter events (run fresh events)

@@ -52,8 +52,8 @@ module _ (t : Terms) (curves : Curves) (size first : ℕ) (no_number : clear (op
   pub record TotalsKept (h : History) : Type 0 where
     pub bought-most : sum (totals_by_trader bought h) ≤ 10000000 * length h
     pub sold-most : sum (totals_by_trader sold h) ≤ 10000000 * length h
-    pub delivered-most : total delivered h ≤ sum (bounds b.low h)
-    pub taken-most : total taken h ≤ sum (bounds b.high h)
+    pub delivered_most : total delivered h ≤ sum (bounds b.low h)
+    pub taken_most : total taken h ≤ sum (bounds b.high h)
     pub low-bounds : (k : ℕ) → get_or (bounds b.low h) k 0 ≤ 500 * Q t.low
     pub high-bounds : (k : ℕ) → get_or (bounds b.high h) k 0 ≤ 500 * Q t.high
     -- the state is first state + bought − sold − delivered + taken
@@ -65,8 +65,8 @@ module _ (t : Terms) (curves : Curves) (size first : ℕ) (no_number : clear (op
       record {
         bought-most = omega arith;
         sold-most = omega arith;
-        delivered-most = omega arith;
-        taken-most = omega arith;
+        delivered_most = omega arith;
+        taken_most = omega arith;
         low-bounds = λ k. omega arith;
         high-bounds = λ k. omega arith;
         adds-up = omega arith;
@@ -83,11 +83,11 @@ module _ (t : Terms) (curves : Curves) (size first : ℕ) (no_number : clear (op
       record {
         bought-most = omega (arith, whole, v.in_size, w.bought-most, opens.size-most, one-sided p, bought-next);
         sold-most = omega (arith, whole, v.in_size, w.sold-most, opens.size-most, one-sided p, sold-next);
-        delivered-most = omega (arith, whole, o.possible.delivered-most, w.delivered-most, one-sided c.delivered, sum-next delivered h c, sum-next (λ (c : Closing). b.low.bound c.readings) h c);
-        taken-most = omega (arith, whole, o.possible.taken-most, w.taken-most, one-sided c.taken, sum-next taken h c, sum-next (λ (c : Closing). b.high.bound c.readings) h c);
+        delivered_most = omega (arith, whole, o.possible.delivered_most, w.delivered_most, one-sided c.delivered, sum-next delivered h c, sum-next (λ (c : Closing). b.low.bound c.readings) h c);
+        taken_most = omega (arith, whole, o.possible.taken_most, w.taken_most, one-sided c.taken, sum-next taken h c, sum-next (λ (c : Closing). b.high.bound c.readings) h c);
         low-bounds = rw map-append (most-next (500 * Q t.low) (bounds b.low h) (b.low.bound c.readings) w.low-bounds (bound-most t.low curves opens.curves-hold low_deviation c.readings o.possible.good));
         high-bounds = rw map-append (most-next (500 * Q t.high) (bounds b.high h) (b.high.bound c.readings) w.high-bounds (bound-most t.high curves opens.curves-hold high_deviation c.readings o.possible.good));
-        adds-up = omega (arith, whole, o.possible.delivered-least, o.possible.taken-least, w.adds-up, new_is b h c, ap above is, ap below is, one-sided c.delivered, one-sided c.taken, bought-next, sold-next, sum-next delivered h c, sum-next taken h c);
+        adds-up = omega (arith, whole, o.possible.delivered_least, o.possible.taken_least, w.adds-up, new_is b h c, ap above is, ap below is, one-sided c.delivered, one-sided c.taken, bought-next, sold-next, sum-next delivered h c, sum-next taken h c);
       }
 
   module _ (h : History) (v : Passes b h) where
@@ -108,8 +108,8 @@ module _ (t : Terms) (curves : Curves) (size first : ℕ) (no_number : clear (op
             eight-sum (bounds b.high h),
             le-leb (sum (totals_by_trader bought h)) (10000000 * length h) w.bought-most,
             le-leb (sum (totals_by_trader sold h)) (10000000 * length h) w.sold-most,
-            le-leb (total delivered h) (sum (bounds b.low h)) w.delivered-most,
-            le-leb (total taken h) (sum (bounds b.high h)) w.taken-most,
+            le-leb (total delivered h) (sum (bounds b.low h)) w.delivered_most,
+            le-leb (total taken h) (sum (bounds b.high h)) w.taken_most,
           )
 
       fits-totals : pos first +ℤ pos (sum (totals_by_trader bought h)) -ℤ pos (sum (totals_by_trader sold h)) -ℤ pos (total delivered h) +ℤ pos (total taken h) ≡ state_after b h
@@ -131,8 +131,8 @@ module _ (t : Terms) (curves : Curves) (size first : ℕ) (no_number : clear (op
             le-leb (length h) 8 v.eight,
             start-here t.low b.low.bound h (suc (length h)),
             start-here t.high b.high.bound h (suc (length h)),
-            true-le_z v.low-passes,
-            true-le_z v.high-passes,
+            true-le_z v.low_passes,
+            true-le_z v.high_passes,
             fits-totals,
             eq_z-refl (state_after b h),
             le-leb (above (state_after b h)) size (omega (arith, whole, v.in_size, one-sided (state_after b h))),
@@ -183,8 +183,8 @@ module _ (t : Terms) (curves : Curves) (size first : ℕ) (no_number : clear (op
           first = first;
           state = new-state i;
           closed = sym (length-append h (c ∷ [])) i;
-          low = entries_next t.low b.low.bound h c o.before-eight i;
-          high = entries_next t.high b.high.bound h c o.before-eight i;
+          low = entries_next t.low b.low.bound h c o.before_eight i;
+          high = entries_next t.high b.high.bound h c o.before_eight i;
           totals = record {
             bought = by-trader-next bought h c o.trader i;
             sold = by-trader-next sold h c o.trader i;

@@ -29,9 +29,9 @@ module _ (d : Direction) (h : History) where
   unfolding start_after back_after
   need-most = needed-most d.REV d.ER (of_period (bounds d h)) (suc (length h))
 
-  pub back-most : back_after d h ≤ d.ER
+  pub back_most : back_after d h ≤ d.ER
   unfolding back_after
-  back-most = back-recovery d.ER (of_period (bounds d h)) (suc (length h))
+  back_most = back-recovery d.ER (of_period (bounds d h)) (suc (length h))
 
   module _ (c : Closing) where
     f : Closing → ℕ

@@ -114,7 +114,7 @@ module _ (q : Quantities) (bound : List ℕ → ℕ) (h : History) where
       by k (no l) = rw (lt-leb (suc k) n (omega arith)) (open_is k (omega arith))
 
   -- ---- one more closing
-  module _ (c : Closing) (before-eight : n < 8) where
+  module _ (c : Closing) (before_eight : n < 8) where
     e⁺ : ℕ → ℕ
     e⁺ = of_period (bounds d (extend h c))
 
@@ -123,13 +123,13 @@ module _ (q : Quantities) (bound : List ℕ → ℕ) (h : History) where
 
     bounds-next : set x.bounds n (bound c.readings) ≡ eight_of 0 (bounds d (extend h c))
     unfolding entries_after
-    bounds-next = eight-set 0 (bounds d h) n (bound c.readings) (length-map h (λ (c : Closing). bound c.readings)) before-eight ∙ rw map-append
+    bounds-next = eight-set 0 (bounds d h) n (bound c.readings) (length-map h (λ (c : Closing). bound c.readings)) before_eight ∙ rw map-append
 
     -- f at the periods up to n, which depends only on the bounds so far, and then at n + 1
     next : {A : Type 0} (none : A) (f f⁺ : ℕ → A) → ((k : ℕ) → k < n → f (suc k) ≡ f⁺ (suc k))
         → set (eight_of none (map f (periods_to n))) n (f⁺ (suc n)) ≡ eight_of none (map f⁺ (periods_to (length (extend h c))))
     next none f f⁺ local =
-        eight-set none (map f (periods_to n)) n (f⁺ (suc n)) (length-periods f n) before-eight
+        eight-set none (map f (periods_to n)) n (f⁺ (suc n)) (length-periods f n) before_eight
         ∙ rw (longer, map_next f⁺ n, map-local f f⁺ n local)
 
     same-before : (k i : ℕ) → suc k < suc i → i ≤ n → e (suc k) ≡ e⁺ (suc k)

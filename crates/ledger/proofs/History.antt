@@ -18,7 +18,7 @@ use Rattle.signed.proofs.Orders.{lt_z-true, lt_z-false, within-true, true-within
 use Rattle.requirement.specs.Requirement.{start}
 use Rattle.ledger.specs.Calls.{Closing, new_state, toward, settles}
 use Rattle.ledger.specs.Promise.{History, Battery, extend, start_after, need_after, state_after, InSize, OutOfSize, Possible, Outcome, ending, Fails, NoCause}
-use Rattle.ledger.proofs.Directions.{need, need-is, need-most, back-most, start-next}
+use Rattle.ledger.proofs.Directions.{need, need-is, need-most, back_most, start-next}
 
 module _ (b : Battery) where
   -- ---- the tests of the calls, as the list gives them
@@ -122,16 +122,16 @@ module _ (b : Battery) where
   -- ---- what every history keeps: it passes both directions at the next start
   pub record Passes (h : History) : Type 0 where
     pub eight : length h ≤ 8
-    pub low-passes : start_after b.low h ≤ℤ state_after b h
-    pub high-passes : start_after b.high h ≤ℤ (pos b.size -ℤ state_after b h)
+    pub low_passes : start_after b.low h ≤ℤ state_after b h
+    pub high_passes : start_after b.high h ≤ℤ (pos b.size -ℤ state_after b h)
     pub in_size : InSize b (state_after b h)
 
   first_passes : Opened → Passes []
   unfolding start_after start state_after
   first_passes o = record {
     eight = omega arith;
-    low-passes = omega (arith, whole, o.low);
-    high-passes = omega (arith, whole, o.fits, o.high, less (pos b.size) (pos b.first));
+    low_passes = omega (arith, whole, o.low);
+    high_passes = omega (arith, whole, o.fits, o.high, less (pos b.size) (pos b.first));
     in_size = omega (arith, whole, o.high);
   }
 
@@ -140,9 +140,9 @@ module _ (b : Battery) where
   next-passes h c v x =
       let e = true-within (floor h) (state_after b h +ℤ c.purchase) (ceiling h) x.floor x.ceiling in
       record {
-        eight = omega (arith, x.before-eight, v.eight, length-append h (c ∷ []));
-        low-passes = rw (state-next h c) (low-safe h c e x.possible);
-        high-passes = rw (state-next h c) (high-safe h c e x.possible);
+        eight = omega (arith, x.before_eight, v.eight, length-append h (c ∷ []));
+        low_passes = rw (state-next h c) (low-safe h c e x.possible);
+        high_passes = rw (state-next h c) (high-safe h c e x.possible);
         in_size = rw (state-next h c) x.in_size;
       }
 
@@ -175,11 +175,11 @@ module _ (b : Battery) where
       let d = within-true (pos 0) c.delivered (pos (b.low.bound c.readings)) y.0 in
       let t = within-true (pos 0) c.taken (pos (b.high.bound c.readings)) y.1 in
       record {
-        before-eight = n;
+        before_eight = n;
         trader = trader;
         floor = w.0;
         ceiling = w.1;
-        possible = record { good = g; delivered-least = d.0; delivered-most = d.1; taken-least = t.0; taken-most = t.1 };
+        possible = record { good = g; delivered_least = d.0; delivered_most = d.1; taken_least = t.0; taken_most = t.1 };
         in_size = within-true (pos 0) (new_state (state_after b h) c) (pos b.size) x.1;
       }
 
@@ -192,8 +192,8 @@ module _ (b : Battery) where
     unfolding settled
     no-cause-settled =
         rw (
-          true-within (pos 0) c.delivered (pos (b.low.bound c.readings)) x.possible.delivered-least x.possible.delivered-most,
-          true-within (pos 0) c.taken (pos (b.high.bound c.readings)) x.possible.taken-least x.possible.taken-most,
+          true-within (pos 0) c.delivered (pos (b.low.bound c.readings)) x.possible.delivered_least x.possible.delivered_most,
+          true-within (pos 0) c.taken (pos (b.high.bound c.readings)) x.possible.taken_least x.possible.taken_most,
           true-within (pos 0) (new_state (state_after b h) c) (pos b.size) x.in_size.0 x.in_size.1,
         )
 
@@ -218,7 +218,7 @@ module _ (b : Battery) where
         record {
           accepted = true-accepts h p (omega arith) (omega (arith, room));
           least = omega (arith, whole, neg (pos b.high.ER));
-          most = omega (arith, whole, v.low-passes, v.in_size.0, back-most b.low h);
+          most = omega (arith, whole, v.low_passes, v.in_size.0, back_most b.low h);
           nearest = λ q e n.
               let a : above q + below p ≢ above p + below q = λ e. n (same q p e) in
               omega (arith, accepts-true h q e, abs_is p, abs_is q, one-sided p, one-sided q);
@@ -234,7 +234,7 @@ module _ (b : Battery) where
         let k' : b.size + below (state_after b h) < above (state_after b h) + need b.high h = omega (arith, whole) in
         record {
           accepted = true-accepts h p (omega (arith, room)) (omega arith);
-          least = omega (arith, whole, v.high-passes, v.in_size.1, back-most b.high h, neg (pos b.high.ER), less (pos b.size) (state_after b h));
+          least = omega (arith, whole, v.high_passes, v.in_size.1, back_most b.high h, neg (pos b.high.ER), less (pos b.size) (state_after b h));
           most = omega (arith, whole);
           nearest = λ q e n.
               let a : above q + below p ≢ above p + below q = λ e. n (same q p e) in
@@ -254,9 +254,9 @@ module _ (b : Battery) where
               omega (arith, abs_is q, one-sided q);
         }
 
-    pub proposal-nearest : Nearest (proposal h)
+    pub proposal_nearest : Nearest (proposal h)
     unfolding proposal
-    proposal-nearest = by (lt_z (state_after b h) (floor h)) (lt_z (ceiling h) (state_after b h)) refl refl
+    proposal_nearest = by (lt_z (state_after b h) (floor h)) (lt_z (ceiling h) (state_after b h)) refl refl
       where
         by : (x y : Bool) → lt_z (state_after b h) (floor h) ≡ x → lt_z (ceiling h) (state_after b h) ≡ y
             → Nearest (cond x (floor h -ℤ state_after b h) (cond y (ceiling h -ℤ state_after b h) (pos 0)))
@@ -280,17 +280,17 @@ module _ (b : Battery) where
       taken = pos 0;
       possible = record {
         good = k.good;
-        delivered-least = omega (arith, whole);
-        delivered-most = omega (arith, whole);
-        taken-least = omega (arith, whole);
-        taken-most = omega (arith, whole);
+        delivered_least = omega (arith, whole);
+        delivered_most = omega (arith, whole);
+        taken_least = omega (arith, whole);
+        taken_most = omega (arith, whole);
       };
     }
 
-    pub refused-fails : accepts h p ≡ false → InSize b (state_after b h +ℤ p) →
+    pub refused_fails : accepts h p ≡ false → InSize b (state_after b h +ℤ p) →
         (o : Outcome b) × Fails b h (ending b p w o) × InSize b (new_state (state_after b h) (ending b p w o))
     unfolding still
-    refused-fails e i = (still, go (accepts-false h p e), omega (arith, whole, i, sum (state_after b h) p, new_is h c))
+    refused_fails e i = (still, go (accepts-false h p e), omega (arith, whole, i, sum (state_after b h) p, new_is h c))
       where
         c : Closing
         c = ending b p w still
@@ -300,12 +300,12 @@ module _ (b : Battery) where
         go (inr l) = inr (omega (arith, whole, i, sum (state_after b h) p, new_is h c, start-next b.high h c, k.high, less (pos b.size) (new_state (state_after b h) c)))
 
     -- refused exactly where state + p is past empty or full, or some outcome fails
-    pub refused-exactly : accepts h p ≡ false ↔ OutOfSize b (state_after b h +ℤ p) ⊎ ((o : Outcome b) × Fails b h (ending b p w o))
-    refused-exactly = (λ e. to e (in-or-out (state_after b h +ℤ p)), λ f. from (accepts h p) refl f)
+    pub refused_exactly : accepts h p ≡ false ↔ OutOfSize b (state_after b h +ℤ p) ⊎ ((o : Outcome b) × Fails b h (ending b p w o))
+    refused_exactly = (λ e. to e (in-or-out (state_after b h +ℤ p)), λ f. from (accepts h p) refl f)
       where
         to : accepts h p ≡ false → InSize b (state_after b h +ℤ p) ⊎ OutOfSize b (state_after b h +ℤ p) →
             OutOfSize b (state_after b h +ℤ p) ⊎ ((o : Outcome b) × Fails b h (ending b p w o))
-        to e (inl i) = let f = refused-fails e i in inr (f.0, f.1)
+        to e (inl i) = let f = refused_fails e i in inr (f.0, f.1)
         to e (inr x) = inl x
 
         never : accepts h p ≡ true → OutOfSize b (state_after b h +ℤ p) ⊎ ((o : Outcome b) × Fails b h (ending b p w o)) → ⊥

@@ -14,7 +14,7 @@ use Rattle.terms.specs.Terms.{Q, REV, ER, above1000}
 use Rattle.terms.specs.declared.Quantities.{Quantities}
 use Rattle.requirement.specs.Requirement.{sched}
 use Rattle.requirement.specs.declared.Next.{Next}
-use Rattle.requirement.proofs.Laws.{back-recovery, left-most, left-local, start-local}
+use Rattle.requirement.proofs.Laws.{back-recovery, left_most, left-local, start-local}
 use Rattle.requirement.proofs.Need.{start-above}
 use Rattle.ledger_record.specs.Rule.{start_at, back_at, next_at, standing_of}
 use Rattle.ledger_record.specs.declared.Entries.{Entries}
@@ -22,7 +22,7 @@ use Rattle.ledger_record.specs.declared.Record.{Record}
 use Rattle.ledger_record.specs.declared.Standing.{Standing}
 use Rattle.ledger_record.proofs.Kept.{opened}
 use Rattle.ledger.specs.Calls.{unusable, accepts, need, floor, ceiling, need_of, NeedFits, closed_entries}
-use Rattle.ledger.proofs.Usable.{rule-kept, before-eight}
+use Rattle.ledger.proofs.Usable.{rule-kept, before_eight}
 
 -- what is needed where the next period begins so
 abbrev needed : Next → ℤ
@@ -39,8 +39,8 @@ need-fits q closed x few =
     let i = suc (min closed 8) in
     let most = ltb-false 1000 (Q q) few in
     record {
-      start-most = omega (arith, start-above (REV q) (ER q) (of_period x.bounds) i, most);
-      back-most = omega (arith, back-recovery (ER q) (of_period x.bounds) i, most);
+      start_most = omega (arith, start-above (REV q) (ER q) (of_period x.bounds) i, most);
+      back_most = omega (arith, back-recovery (ER q) (of_period x.bounds) i, most);
     }
 
 -- ---- a record by its standing
@@ -63,11 +63,11 @@ module _ (r : Record) (s : Standing) (is : s ≡ standing_of r) where
 
     pub floor-is : needed s.low ≡ floor r
     unfolding standing_of
-    floor-is = rw is (need-is r.terms.low r.closed r.low (before-eight r e))
+    floor-is = rw is (need-is r.terms.low r.closed r.low (before_eight r e))
 
     pub ceiling-is : pos r.size -ℤ needed s.high ≡ ceiling r
     unfolding standing_of
-    ceiling-is = rw is (ap (λ z. pos r.size -ℤ z) (need-is r.terms.high r.closed r.high (before-eight r e)))
+    ceiling-is = rw is (ap (λ z. pos r.size -ℤ z) (need-is r.terms.high r.closed r.high (before_eight r e)))
 
     pub accepts-is : (p : ℤ) {b : Bool} → b ≡ within (needed s.low) (pos r.state +ℤ p) (pos r.size -ℤ needed s.high) → b ≡ accepts r p
     unfolding accepts
@@ -78,7 +78,7 @@ module _ (r : Record) (s : Standing) (is : s ≡ standing_of r) where
 pub left-fits : (q : Quantities) (closed : ℕ) (x : Entries) → ((k : ℕ) → k < 8 → get_or x.bounds k 0 < 2 ^ 32) → (next_at q closed x).left ≤ 2 ^ 32 * 8
 left-fits q closed x each =
     let n = min closed 8 in
-    omega (arith, left-most (ER q) (of_period x.bounds) (2 ^ 32) n (λ k l. let p : suc k - 1 ≡ k = omega arith in rw p (omega (arith, each k (omega arith)))))
+    omega (arith, left_most (ER q) (of_period x.bounds) (2 ^ 32) n (λ k l. let p : suc k - 1 ≡ k = omega arith in rw p (omega (arith, each k (omega arith)))))
 
 -- the bounds before the next period are as they were
 module _ (q : Quantities) (x : Entries) (closed bound : ℕ) (h : closed < 8) (long : length x.bounds ≡ 8) where

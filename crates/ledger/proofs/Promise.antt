@@ -25,7 +25,7 @@ use Rattle.ledger_record.proofs.Openings.{LetThrough, let_through}
 use Rattle.ledger.specs.Calls.{Closing, is_trader, new_state, unusable, checking, proposing, closing_causes, closing, record_closed, settles, low, high}
 use Rattle.ledger.specs.Calls as calls
 use Rattle.ledger.specs.Promise.{Call, check, propose, close, after, run, Gives, History, done, carried_out, Battery, NoCause, Open, Promise, battery, state_after, entries_after, totals_after, record_after, Demand3}
-use Rattle.ledger.proofs.History.{Opened, Still, Passes, AllPass, all-passes, first-all, next-all, accepts, proposal, settled, no-cause, no-cause-accepts, no-cause-settled, proposal-nearest, safe, refused-exactly, refused-fails}
+use Rattle.ledger.proofs.History.{Opened, Still, Passes, AllPass, all-passes, first-all, next-all, accepts, proposal, settled, no-cause, no-cause-accepts, no-cause-settled, proposal_nearest, safe, refused_exactly, refused_fails}
 use Rattle.ledger.proofs.ByTrader.{trader-in, is-trader}
 use Rattle.ledger.proofs.Agreement.{TotalsKept, no-totals, totals-next, rule-holds, usable-is, accepts-are, proposal-is, settles-are, closed_is}
 
@@ -106,8 +106,8 @@ module _ (t : Terms) (curves : Curves) (size first : ℕ) (no_number : clear (op
     unfolding closing
     given-exactly c = given_is (closing_causes r c) (record_closed r c) ∙ rw (usable, accepting c.purchase, settling c)
 
-    carried-exactly : (c : Closing) → is_given (closing r c) ≡ true ↔ NoCause b h c
-    carried-exactly c = (
+    carried_exactly : (c : Closing) → is_given (closing r c) ≡ true ↔ NoCause b h c
+    carried_exactly c = (
       λ e.
           let none-holds : (k : ℕ) → holds_of k (list_causes c) ≡ false = λ k. clear_of k (list_causes c) (sym (given-exactly c) ∙ e) in
           let n = eqb-false (length h) 8 (none-holds 10) in
@@ -117,15 +117,15 @@ module _ (t : Terms) (curves : Curves) (size first : ℕ) (no_number : clear (op
           (not-false (good_readings c.readings) (none-holds 6))
           (not-false (settled b h c) (none-holds 9)),
       λ o.
-          let n : eqb (length h) 8 ≡ false = ne_eqb (length h) 8 (λ e. omega (arith, o.before-eight)) in
+          let n : eqb (length h) 8 ≡ false = ne_eqb (length h) 8 (λ e. omega (arith, o.before_eight)) in
           given-exactly c ∙ rw (n, is-trader c.trader o.trader, no-cause-accepts b h c o, o.possible.good, no-cause-settled b h c o),
     )
 
     -- ---- a refused call leaves the record as it was
-    refused-leaves : (call : Call) (k : ℕ) → Gives r call k → after r call ≡ r
-    refused-leaves (check p) k e = refl
-    refused-leaves propose k e = refl
-    refused-leaves (close c) k e = ap (or_blank r) e
+    refused_leaves : (call : Call) (k : ℕ) → Gives r call k → after r call ≡ r
+    refused_leaves (check p) k e = refl
+    refused_leaves propose k e = refl
+    refused_leaves (close c) k e = ap (or_blank r) e
 
     -- ---- before eight
     module _ (before : length h < 8) where
@@ -148,8 +148,8 @@ module _ (t : Terms) (curves : Curves) (size first : ℕ) (no_number : clear (op
           w : checked {A = Unit} (cause 8 (not (accepts b h p)) ∷ []) tt ≡ refused 8 ↔ not (accepts b h p) ≡ true
           w = first-given 8 (not (accepts b h p)) [] tt refl
 
-      accepted-or-refused : (p : ℤ) → (checking r p ≡ given tt) ⊎ (checking r p ≡ refused 8)
-      accepted-or-refused p = by (accepts b h p) refl
+      accepted_or_refused : (p : ℤ) → (checking r p ≡ given tt) ⊎ (checking r p ≡ refused 8)
+      accepted_or_refused p = by (accepts b h p) refl
         where
           by : (x : Bool) → accepts b h p ≡ x → (checking r p ≡ given tt) ⊎ (checking r p ≡ refused 8)
           by true e = inl ((accepted-exactly p).1 e)
@@ -161,32 +161,32 @@ module _ (t : Terms) (curves : Curves) (size first : ℕ) (no_number : clear (op
 
       is_open : Open b h r
       is_open =
-          let q = proposal-nearest b opened h passes in
+          let q = proposal_nearest b opened h passes in
           record {
             proposal = proposal b h;
             proposes = proposes;
-            proposal-accepted = (accepted-exactly (proposal b h)).1 q.accepted;
-            proposal-least = q.least;
-            proposal-most = q.most;
-            proposal-nearest = λ p e. q.nearest p ((accepted-exactly p).0 e);
-            accepted-or-refused = accepted-or-refused;
-            refused-exactly = λ p w.
-                let x = refused-exactly b still h p w in
+            proposal_accepted = (accepted-exactly (proposal b h)).1 q.accepted;
+            proposal_least = q.least;
+            proposal_most = q.most;
+            proposal_nearest = λ p e. q.nearest p ((accepted-exactly p).0 e);
+            accepted_or_refused = accepted_or_refused;
+            refused_exactly = λ p w.
+                let x = refused_exactly b still h p w in
                 (λ e. x.0 ((refused-is p).0 e), λ f. (refused-is p).1 (x.1 f));
-            accepted-passes = λ p w e. safe b h p w ((accepted-exactly p).0 e);
-            refused-fails = λ p w e. refused-fails b still h p w ((refused-is p).0 e);
+            accepted_passes = λ p w e. safe b h p w ((accepted-exactly p).0 e);
+            refused_fails = λ p w e. refused_fails b still h p w ((refused-is p).0 e);
           }
 
     holds-here : Promise b h r
     holds-here =
         record {
-          at-most-eight = passes.eight;
-          low-passes = λ k l. (a.all_pass k l).low-passes;
-          high-passes = λ k l. (a.all_pass k l).high-passes;
+          at_most_eight = passes.eight;
+          low_passes = λ k l. (a.all_pass k l).low_passes;
+          high_passes = λ k l. (a.all_pass k l).high_passes;
           eight = eight;
-          before-eight = is_open;
-          carried-exactly = carried-exactly;
-          refused-leaves = refused-leaves;
+          before_eight = is_open;
+          carried_exactly = carried_exactly;
+          refused_leaves = refused_leaves;
         }
 
   -- ---- a call keeps the agreement
@@ -201,7 +201,7 @@ module _ (t : Terms) (curves : Curves) (size first : ℕ) (no_number : clear (op
       by : (g : Bool) → is_given (closing r c) ≡ g → Agrees (cond g (record_closed r c) r) (h ++ cond g (c ∷ []) [])
       by false e = no_more a
       by true e =
-          let o = (carried-exactly a c).0 e in
+          let o = (carried_exactly a c).0 e in
           record {
             all_pass = next-all b h c a.all_pass o;
             totals = totals-next t curves size first no_number h c (passes a) a.totals o;

@@ -14,10 +14,10 @@ use Rattle.ledger.specs.Calls.{moved, settles}
 -- delivered and taken are not negative, and at most their bounds
 pub record InBounds (low high : ℕ) (d k : ℤ) : Type 0 where
   pub tests : within (pos 0) d (pos low) && within (pos 0) k (pos high) ≡ true
-  pub delivered-least : below d ≡ 0
-  pub delivered-most : above d ≤ low
-  pub taken-least : below k ≡ 0
-  pub taken-most : above k ≤ high
+  pub delivered_least : below d ≡ 0
+  pub delivered_most : above d ≤ low
+  pub taken_least : below k ≡ 0
+  pub taken_most : above k ≤ high
 
 pub in_bounds : (low high : ℕ) (d k : ℤ) → within (pos 0) d (pos low) && within (pos 0) k (pos high) ≡ true → InBounds low high d k
 in_bounds low high d k e =
@@ -26,10 +26,10 @@ in_bounds low high d k e =
     let y = within-true (pos 0) k (pos high) w.1 in
     record {
       tests = e;
-      delivered-least = omega (arith, whole, x, one-sided d);
-      delivered-most = omega (arith, whole, x, one-sided d);
-      taken-least = omega (arith, whole, y, one-sided k);
-      taken-most = omega (arith, whole, y, one-sided k);
+      delivered_least = omega (arith, whole, x, one-sided d);
+      delivered_most = omega (arith, whole, x, one-sided d);
+      taken_least = omega (arith, whole, y, one-sided k);
+      taken_most = omega (arith, whole, y, one-sided k);
     }
 
 module _ {low high : ℕ} {d k : ℤ} (b : InBounds low high d k) (state size : ℕ) (p : ℤ) where

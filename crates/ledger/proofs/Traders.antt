@@ -172,8 +172,8 @@ module _ (t : Terms) (curves : Curves) (size first : ℕ) (r₀ : Record) (opens
   pub two-lists : (calls others : List Call) → DifferInTraders calls others → TwoLists r₀ calls others
   two-lists calls others d =
       record {
-        same-answers = sym (answers-same calls r₀ four-first d.good) ∙ ap (answers (one_book r₀)) d.else_same ∙ answers-same others r₀ four-first d.others-good;
-        same-record = sym (run-same calls r₀ four-first d.good) ∙ ap (run (one_book r₀)) d.else_same ∙ run-same others r₀ four-first d.others-good;
+        same_answers = sym (answers-same calls r₀ four-first d.good) ∙ ap (answers (one_book r₀)) d.else_same ∙ answers-same others r₀ four-first d.others_good;
+        same_record = sym (run-same calls r₀ four-first d.good) ∙ ap (run (one_book r₀)) d.else_same ∙ run-same others r₀ four-first d.others_good;
       }
 
   pub one-trader : (calls : List Call) → OneTrader r₀ calls

@@ -16,8 +16,8 @@ module _ (r : Record) (e : unusable r ≡ false) where
   unfolding unusable
   rule-kept = not-false (record_rule r) (neither (eqb r.closed 8) (not (record_rule r)) e).1
 
-  pub before-eight : r.closed < 8
+  pub before_eight : r.closed < 8
   unfolding unusable
-  before-eight =
+  before_eight =
       let n = eqb-false r.closed 8 (neither (eqb r.closed 8) (not (record_rule r)) e).0 in
       omega (arith, closed-most r rule-kept)

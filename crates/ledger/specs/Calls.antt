@@ -195,8 +195,8 @@ close_answer_of c = close_answer_with c.answer c.«record»
 
 -- `need_of`: start and back of a period are such that their sum is a u64
 pub record NeedFits (n : Next) : Type 0 where
-  pub start-most : above n.start ≤ 2 ^ 44
-  pub back-most : n.back ≤ 2 ^ 44
+  pub start_most : above n.start ≤ 2 ^ 44
+  pub back_most : n.back ≤ 2 ^ 44
 
 -- `settle`: the new state, where the closing settles
 abbrev pub settling : ℕ → ℕ → ℕ → ℤ → ℤ → ℤ → Settled
@@ -209,13 +209,13 @@ pub record TotalFits (w : ℕ) (each : List ℕ) (more : ℕ) : Type 0 where
 
 -- `closed_totals`: each total with one more closing is a u32
 pub record TotalsFit (t : Totals) (p delivered taken : ℤ) (w : ℕ) : Type 0 where
-  pub bought-fits : TotalFits w t.bought (above p)
-  pub sold-fits : TotalFits w t.sold (below p)
-  pub delivered-fits : t.delivered + above delivered < 2 ^ 32
-  pub taken-fits : t.taken + above taken < 2 ^ 32
+  pub bought_fits : TotalFits w t.bought (above p)
+  pub sold_fits : TotalFits w t.sold (below p)
+  pub delivered_fits : t.delivered + above delivered < 2 ^ 32
+  pub taken_fits : t.taken + above taken < 2 ^ 32
 
 -- `closed_record`: a period is open, the standing is the record's, and the totals fit
 pub record CanClose (r : Record) (s : Standing) (p delivered taken : ℤ) (w : ℕ) : Type 0 where
-  pub period-open : r.closed < 8
+  pub period_open : r.closed < 8
   pub stands : s ≡ standing_of r
-  pub totals-fit : TotalsFit r.totals p delivered taken w
+  pub totals_fit : TotalsFit r.totals p delivered taken w

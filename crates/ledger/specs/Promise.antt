@@ -115,10 +115,10 @@ module _ (b : Battery) where
   -- readings that 6 lets through, of either rate, with delivered from 0 to their low bound and taken from 0 to their high one
   pub record Possible (readings : List ℕ) (delivered taken : ℤ) : Type 0 where
     pub good : b.good readings ≡ true
-    pub delivered-least : pos 0 ≤ℤ delivered
-    pub delivered-most : delivered ≤ℤ pos (b.low.bound readings)
-    pub taken-least : pos 0 ≤ℤ taken
-    pub taken-most : taken ≤ℤ pos (b.high.bound readings)
+    pub delivered_least : pos 0 ≤ℤ delivered
+    pub delivered_most : delivered ≤ℤ pos (b.low.bound readings)
+    pub taken_least : pos 0 ≤ℤ taken
+    pub taken_most : taken ≤ℤ pos (b.high.bound readings)
 
   pub record Outcome : Type 0 where
     pub readings : List ℕ
@@ -140,7 +140,7 @@ module _ (b : Battery) where
 
   -- none of a closing's causes holds, in the order 10, 19, 8, 6, 9
   pub record NoCause (h : History) (c : Closing) : Type 0 where
-    pub before-eight : length h < 8
+    pub before_eight : length h < 8
     pub trader : (1 ≤ c.trader) × (c.trader ≤ 4)
     pub floor : need_after b.low h ≤ℤ (state_after h +ℤ c.purchase)
     pub ceiling : (state_after h +ℤ c.purchase) ≤ℤ (pos b.size -ℤ need_after b.high h)
@@ -152,34 +152,34 @@ module _ (b : Battery) where
     -- the proposal is accepted, lies between minus the high ER and the low ER, and every other accepted purchase is farther from 0
     pub proposal : ℤ
     pub proposes : proposing r ≡ given proposal
-    pub proposal-accepted : checking r proposal ≡ given tt
-    pub proposal-least : neg_ℤ (pos b.high.ER) ≤ℤ proposal
-    pub proposal-most : proposal ≤ℤ pos b.low.ER
-    pub proposal-nearest : (q : ℤ) → checking r q ≡ given tt → q ≢ proposal → nat_abs proposal < nat_abs q
+    pub proposal_accepted : checking r proposal ≡ given tt
+    pub proposal_least : neg_ℤ (pos b.high.ER) ≤ℤ proposal
+    pub proposal_most : proposal ≤ℤ pos b.low.ER
+    pub proposal_nearest : (q : ℤ) → checking r q ≡ given tt → q ≢ proposal → nat_abs proposal < nat_abs q
     -- a purchase is accepted or refused 8
-    pub accepted-or-refused : (p : ℤ) → (checking r p ≡ given tt) ⊎ (checking r p ≡ refused 8)
+    pub accepted_or_refused : (p : ℤ) → (checking r p ≡ given tt) ⊎ (checking r p ≡ refused 8)
     -- whoever the trader w: refused exactly when state + p is past empty or full, or some outcome fails
-    pub refused-exactly : (p : ℤ) (w : ℕ) →
+    pub refused_exactly : (p : ℤ) (w : ℕ) →
         checking r p ≡ refused 8 ↔ OutOfSize (state_after h +ℤ p) ⊎ ((o : Outcome) × Fails h (ending p w o))
     -- for an accepted p no outcome fails, even where the new state is outside 0..size
-    pub accepted-passes : (p : ℤ) (w : ℕ) → checking r p ≡ given tt → (o : Outcome) → ¬ Fails h (ending p w o)
+    pub accepted_passes : (p : ℤ) (w : ℕ) → checking r p ≡ given tt → (o : Outcome) → ¬ Fails h (ending p w o)
     -- for a refused p with state + p in 0..size, some outcome fails whose new state is in 0..size
-    pub refused-fails : (p : ℤ) (w : ℕ) → checking r p ≡ refused 8 → InSize (state_after h +ℤ p) →
+    pub refused_fails : (p : ℤ) (w : ℕ) → checking r p ≡ refused 8 → InSize (state_after h +ℤ p) →
         (o : Outcome) × Fails h (ending p w o) × InSize (new_state (state_after h) (ending p w o))
 
   pub record Promise (h : History) (r : Record) : Type 0 where
-    pub at-most-eight : length h ≤ 8
+    pub at_most_eight : length h ≤ 8
     -- the unit passes both directions at every start: for every k from 0 to n, after the first k closings carried out the state is
     -- at least low start(k+1), and size less state is at least high start(k+1)
-    pub low-passes : (k : ℕ) → k ≤ length h → start_after b.low (take k h) ≤ℤ state_after (take k h)
-    pub high-passes : (k : ℕ) → k ≤ length h → start_after b.high (take k h) ≤ℤ (pos b.size -ℤ state_after (take k h))
+    pub low_passes : (k : ℕ) → k ≤ length h → start_after b.low (take k h) ≤ℤ state_after (take k h)
+    pub high_passes : (k : ℕ) → k ≤ length h → start_after b.high (take k h) ≤ℤ (pos b.size -ℤ state_after (take k h))
     -- with n = 8 every call gives 10; before that none does
     pub eight : (call : Call) → Gives r call 10 ↔ length h ≡ 8
-    pub before-eight : length h < 8 → Open h r
+    pub before_eight : length h < 8 → Open h r
     -- a closing is carried out exactly when none of its causes holds
-    pub carried-exactly : (c : Closing) → is_given (closing r c) ≡ true ↔ NoCause h c
+    pub carried_exactly : (c : Closing) → is_given (closing r c) ≡ true ↔ NoCause h c
     -- a refused call leaves the record as it was
-    pub refused-leaves : (call : Call) (k : ℕ) → Gives r call k → after r call ≡ r
+    pub refused_leaves : (call : Call) (k : ℕ) → Gives r call k → after r call ≡ r
 
 -- ---- the record that the closings carried out give
 

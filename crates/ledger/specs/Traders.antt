@@ -84,14 +84,14 @@ trader_good (close c) = is_trader c.trader
 -- all traders are 1 to 4, and with trader 1 for every closing the two lists are one
 pub record DifferInTraders (calls others : List Call) : Type 0 where
   pub good : every trader_good calls ≡ true
-  pub others-good : every trader_good others ≡ true
+  pub others_good : every trader_good others ≡ true
   pub else_same : map by_trader1 calls ≡ map by_trader1 others
 
 -- on the record r₀ that opening returned: the same answers call by call, and records that agree in everything but the traders'
 -- totals, whose sums agree; so a plan passes just as with one book
 pub record TwoLists (r₀ : Record) (calls others : List Call) : Type 0 where
-  pub same-answers : answers r₀ calls ≡ answers r₀ others
-  pub same-record : one_book (run r₀ calls) ≡ one_book (run r₀ others)
+  pub same_answers : answers r₀ calls ≡ answers r₀ others
+  pub same_record : one_book (run r₀ calls) ≡ one_book (run r₀ others)
 
 -- ---- one trader
 

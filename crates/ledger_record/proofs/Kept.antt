@@ -79,8 +79,8 @@ module _ (r : Record) where
   pub record Kept : Type 0 where
     pub bought-most : sum r.totals.bought ≤ 10000000 * r.closed
     pub sold-most : sum r.totals.sold ≤ 10000000 * r.closed
-    pub delivered-most : r.totals.delivered ≤ 4000000
-    pub taken-most : r.totals.taken ≤ 4000000
+    pub delivered_most : r.totals.delivered ≤ 4000000
+    pub taken_most : r.totals.taken ≤ 4000000
     pub state-most : r.state ≤ r.size
 
   pub kept : length r.low.bounds ≡ 8 → length r.high.bounds ≡ 8 → record_rule r ≡ true → Kept
@@ -100,7 +100,7 @@ module _ (r : Record) where
       record {
         bought-most = leb-true (sum r.totals.bought) (10000000 * r.closed) b.0;
         sold-most = leb-true (sum r.totals.sold) (10000000 * r.closed) b.1;
-        delivered-most = omega (arith, leb-true r.totals.delivered (sum r.low.bounds) d.1, sum-most r.terms.low r.closed r.low low-long f.low-quantity p.low-holds);
-        taken-most = omega (arith, leb-true r.totals.taken (sum r.high.bounds) t.1, sum-most r.terms.high r.closed r.high high-long f.high-quantity p.high-holds);
+        delivered_most = omega (arith, leb-true r.totals.delivered (sum r.low.bounds) d.1, sum-most r.terms.low r.closed r.low low-long f.low-quantity p.low-holds);
+        taken_most = omega (arith, leb-true r.totals.taken (sum r.high.bounds) t.1, sum-most r.terms.high r.closed r.high high-long f.high-quantity p.high-holds);
         state-most = leb-true r.state r.size s₁.0;
       }

@@ -50,8 +50,8 @@ module _ (price adjustment k f : ℕ) (ps : Pieces) where
   unfolding paying
   is-amount {z} e = given-value (payment_causes price adjustment k f ps) (amount price adjustment k f (pieces_of ps)) z e
 
-  never-more : (z : ℤ) → paying price adjustment k f ps ≡ given z → z ≤ℤ gross price (pieces_of ps)
-  never-more z e =
+  never_more : (z : ℤ) → paying price adjustment k f ps ≡ given z → z ≤ℤ gross price (pieces_of ps)
+  never_more z e =
       let h = factors e in
       rw (← is-amount e) (amount-most price adjustment k f (pieces_of ps) h.0 h.1)
 
@@ -64,4 +64,4 @@ module _ (price adjustment k f : ℕ) (ps : Pieces) where
       sym (paid price adjustment k f ps p a hk hf rule zero).0
 
   pub payment-laws : PaymentLaws price adjustment k f ps
-  payment-laws = record { never-more = never-more; empty = empty }
+  payment-laws = record { never_more = never_more; empty = empty }

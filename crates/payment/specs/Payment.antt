@@ -93,7 +93,7 @@ gross price ps = rounded (total (map (worth price) ps))
 -- `payment-laws` in proofs/Laws.antt proves it for every price, adjustment price, K, F and pieces
 pub record PaymentLaws (price adjustment k f : ℕ) (ps : Pieces) : Type 0 where
   -- it is never more than price times quantity and time, rounded alike
-  pub never-more : (pence : ℤ) → paying price adjustment k f ps ≡ given pence → pence ≤ℤ gross price (pieces_of ps)
+  pub never_more : (pence : ℤ) → paying price adjustment k f ps ≡ given pence → pence ≤ℤ gross price (pieces_of ps)
   -- an empty list pays 0
   pub empty : price ≤ 10000 → adjustment ≤ 10000 → k ≤ 1000 → f ≤ 1000 → ps.count ≡ 0 → paying price adjustment k f ps ≡ given (pos 0)
 

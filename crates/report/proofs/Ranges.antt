@@ -115,22 +115,22 @@ module _ (input output : List ℕ) {out : List ℕ} (is : reporting input output
   unfolding reporting
   not-held k = clear_of k (report_causes input output) (given-clear (report_causes input output) (written x output) out is)
 
-  quantity-most : Q x.quantities ≤ 1000
+  quantity_most : Q x.quantities ≤ 1000
   unfolding report_causes
-  quantity-most = ltb-false 1000 (Q x.quantities) (neither (above1000 x.quantities) (eqb (Q x.quantities) 0) (not-held 1)).0
+  quantity_most = ltb-false 1000 (Q x.quantities) (neither (above1000 x.quantities) (eqb (Q x.quantities) 0) (not-held 1)).0
 
   bound-most : (i : ℕ) → of_period x.bounds i ≤ 500000
   unfolding report_causes
   bound-most i =
       let n = 500 * Q x.quantities in
       let h = ltb-false n (of_period x.bounds i) (some-not (ltb n) x.bounds (i - 1) 0 (le-ltb n 0 (omega arith)) (not-held 7)) in
-      omega (arith, quantity-most)
+      omega (arith, quantity_most)
 
   pub rows_fit : (i : ℕ) (d : Row) → i < 8 → Each FitsIn (get_or rows i d)
   unfolding rows_of
   rows_fit i d h =
       rw (period-at (judged_row (REV x.quantities) (ER x.quantities) x.bounds x.reported) 8 i d h)
-      (row_fits (REV x.quantities) (ER x.quantities) x.bounds x.reported (omega (arith, quantity-most)) bound-most i h)
+      (row_fits (REV x.quantities) (ER x.quantities) x.bounds x.reported (omega (arith, quantity_most)) bound-most i h)
 
   pub rows_whole : (i : ℕ) (d : Row) → i < 8 → Each Whole (get_or rows i d)
   rows_whole i d h = fits_whole (get_or rows i d) (rows_fit i d h)

@@ -19,12 +19,12 @@ use Rattle.requirement.proofs.Shortfall.{shortfall, left-next, sched-le, back-le
 
 module _ (REV ER : ℕ) (e : ℕ → ℕ) where
   -- requirements never exceed REV
-  pub start-most : (i : ℕ) → start REV ER e i ≤ℤ pos REV
-  start-most i = rw (start_is REV ER e i) (omega (arith, whole, less (pos REV) (pos (shortfall ER e i))))
+  pub start_most : (i : ℕ) → start REV ER e i ≤ℤ pos REV
+  start_most i = rw (start_is REV ER e i) (omega (arith, whole, less (pos REV) (pos (shortfall ER e i))))
 
   -- what comes back is at most what the start is short of REV
-  pub back-most : (i : ℕ) → pos (back ER e i) ≤ℤ (pos REV -ℤ start REV ER e i)
-  back-most i =
+  pub back_most : (i : ℕ) → pos (back ER e i) ≤ℤ (pos REV -ℤ start REV ER e i)
+  back_most i =
       rw (start_is REV ER e i)
       (omega (arith, whole, back-le ER e i, less (pos REV) (pos (shortfall ER e i)), less (pos REV) (pos REV -ℤ pos (shortfall ER e i))))
 
@@ -56,10 +56,10 @@ module _ (ER : ℕ) (e : ℕ → ℕ) where
       omega (arith, all-scheduled n, sum-next e (periods_to n) (suc n), sum-next (sched ER e) (periods_to n) (suc n), left-next ER e n, sched-le ER e (suc n))
 
   -- no more is left than the bounds before
-  pub left-most : (m i : ℕ) → ((k : ℕ) → k < i → e (suc k) ≤ m) → left ER e (suc i) ≤ m * i
+  pub left_most : (m i : ℕ) → ((k : ℕ) → k < i → e (suc k) ≤ m) → left ER e (suc i) ≤ m * i
   unfolding left
-  left-most m zero h = omega arith
-  left-most m (suc i) h = omega (arith, left-next ER e i, left-most m i (λ k l. h k (omega arith)), h i (omega arith), mul-suc m i)
+  left_most m zero h = omega arith
+  left_most m (suc i) h = omega (arith, left-next ER e i, left_most m i (λ k l. h k (omega arith)), h i (omega arith), mul-suc m i)
 
 -- a start depends only on the bounds of the periods before it, and so does what is left and what comes back
 module _ (ER : ℕ) (e f : ℕ → ℕ) where

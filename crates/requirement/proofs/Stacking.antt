@@ -36,11 +36,11 @@ module _ (a b : Contract) (long : length a.bounds ≡ length b.bounds) where
   added i = added-at a.bounds b.bounds long (i - 1)
 
   -- no more is left than apart
-  left-most : (i : ℕ) → left_in both i ≤ left_in a i + left_in b i
+  left_most : (i : ℕ) → left_in both i ≤ left_in a i + left_in b i
   unfolding left
-  left-most zero = omega arith
-  left-most (suc zero) = omega arith
-  left-most (suc (suc i)) = omega (arith, left-most (suc i), added (suc i))
+  left_most zero = omega arith
+  left_most (suc zero) = omega arith
+  left_most (suc (suc i)) = omega (arith, left_most (suc i), added (suc i))
 
   abbrev saved : ℕ → ℕ
   saved i = left_in a i + left_in b i - left_in both i
@@ -62,7 +62,7 @@ module _ (a b : Contract) (long : length a.bounds ≡ length b.bounds) where
         short-later a i,
         short-later b i,
         short-later both i,
-        left-most (suc i),
+        left_most (suc i),
         added (suc i),
         added (suc (suc i)),
         added (suc (suc (suc i))),
@@ -97,7 +97,7 @@ module _ (a b : Contract) (long : length a.bounds ≡ length b.bounds) where
         by : Dec (i ≤ 4) → above (saved_before a b i) ≡ more + below (saved_before a b i)
         by (yes h) = rw (le-leb i 4 h)
         by (no h) =
-            rw (lt-leb i 4 (omega arith)) (omega (arith, less (pos (left_in a (i - 4) + left_in b (i - 4))) (pos (left_in both (i - 4))), left-most (i - 4)))
+            rw (lt-leb i 4 (omega arith)) (omega (arith, less (pos (left_in a (i - 4) + left_in b (i - 4))) (pos (left_in both (i - 4))), left_most (i - 4)))
 
     abbrev separate : ℤ
     separate = start_in a i +ℤ start_in b i

@@ -111,7 +111,7 @@ row_from ER e left back start =
 
 -- where start is REV less the shortfall: the sums fit, and no more comes back than is short
 pub record RowFits (REV left back shortfall : ℕ) : Type 0 where
-  pub rev-most : REV ≤ 2 ^ 44
-  pub left-most : left ≤ 2 ^ 35
-  pub short-most : shortfall ≤ 2 ^ 35
-  pub back-most : back ≤ shortfall
+  pub rev_most : REV ≤ 2 ^ 44
+  pub left_most : left ≤ 2 ^ 35
+  pub short_most : shortfall ≤ 2 ^ 35
+  pub back_most : back ≤ shortfall

@@ -9,11 +9,11 @@ use Rattle.terms.specs.declared.Quantities.{Quantities}
 use Rattle.terms.specs.declared.DirectionTerms.{DirectionTerms}
 
 module _ (q : Quantities) {t : DirectionTerms} (is : t ≡ direction_terms q) (h : above1000 q ≡ false) where
-  quantity-most : Q q ≤ 1000
-  quantity-most = ltb-false 1000 (Q q) h
+  quantity_most : Q q ≤ 1000
+  quantity_most = ltb-false 1000 (Q q) h
 
-  pub rev-most : t.rev ≤ 1000000
-  rev-most = rw is (omega (arith, quantity-most))
+  pub rev_most : t.rev ≤ 1000000
+  rev_most = rw is (omega (arith, quantity_most))
 
   pub er-most : t.er ≤ 200000
-  er-most = rw is (omega (arith, quantity-most))
+  er-most = rw is (omega (arith, quantity_most))

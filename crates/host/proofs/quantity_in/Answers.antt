@@ -14,7 +14,7 @@ use Rattle.signed.proofs.Signs.{nearest-sub}
 use Rattle.capability.specs.declared.Energies.{Energies}
 use Rattle.capability.specs.declared.Limits.{Limits}
 use Rattle.capability.specs.Quantity.{quantity_answer}
-use Rattle.capability.proofs.QuantityLaws.{quantity-most}
+use Rattle.capability.proofs.QuantityLaws.{quantity_most}
 use Rattle.host.specs.Points.{points_in, quantity_in}
 use Rattle.host.proofs.quantity_in.Goals as goal
 
@@ -44,7 +44,7 @@ returns-in-Quantity c =
     let a = c.args in
     let kw = c.in-Quantity.kw in
     let is = rw c.points_in-points.ensures at c.in-Quantity.ensures in
-    let most = quantity-most a.direction a.limits (points_in a.bytes.now) a.limit a.available a.energies kw (sym is) in
+    let most = quantity_most a.direction a.limits (points_in a.bytes.now) a.limit a.available a.energies kw (sym is) in
     rw (
       to_z-of_z {z = c.difference.result} (sfits_of c.difference.type_inv),
       c.difference.ensures,

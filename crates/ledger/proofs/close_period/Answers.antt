@@ -23,19 +23,19 @@ use Rattle.ledger.proofs.ByTrader.{trader-in}
 use Rattle.ledger.proofs.Closings.{accepted-most, no-bounds, bounds-are, not-settled, settled-to}
 use Rattle.ledger.proofs.NextPeriod.{unusable-is, can-use, low_fits, high_fits, accepts-is}
 use Rattle.ledger.proofs.Settling.{in_bounds}
-use Rattle.ledger.proofs.Usable.{rule-kept, before-eight}
+use Rattle.ledger.proofs.Usable.{rule-kept, before_eight}
 use Rattle.ledger.proofs.close_period.Goals as goal
 
 -- the totals of a usable record stay in range, where 19, 8, 6 and 9 do not hold
-totals-fit : (g : Record) → unusable g ≡ false → length g.low.bounds ≡ 8 → length g.high.bounds ≡ 8
+totals_fit : (g : Record) → unusable g ≡ false → length g.low.bounds ≡ 8 → length g.high.bounds ≡ 8
     → (p d k : ℤ) (xs : List ℕ) (w low high : ℕ) → is_trader w ≡ true → accepts g p ≡ true
     → good_readings xs ≡ true → low ≡ low_bound g.terms.low g.curves xs → high ≡ high_bound g.terms.high g.curves xs
     → settles low high g.size d k (moved (pos g.state) p d k) ≡ true → TotalsFit g.totals p d k w
-totals-fit g usable low-long high-long p d k xs w low high trader-good accepted good low-is high_is e =
+totals_fit g usable low-long high-long p d k xs w low high trader-good accepted good low-is high_is e =
     let rule = rule-kept g usable in
     let kept_here = kept g low-long high-long rule in
     let f = opened g rule in
-    let n = before-eight g usable in
+    let n = before_eight g usable in
     let most = accepted-most g p accepted kept_here.state-most f.size-most in
     let both-bounds = (both_true (within (pos 0) d (pos low) && within (pos 0) k (pos high)) (within (pos 0) (moved (pos g.state) p d k) (pos g.size)) e).0 in
     let i = in_bounds low high d k both-bounds in
@@ -43,10 +43,10 @@ totals-fit g usable low-long high-long p d k xs w low high trader-good accepted 
     let h = bound-most g.terms.high g.curves f.curves-hold high_deviation xs good in
     let t = trader-in w trader-good in
     record {
-      bought-fits = record { trader = t; fits = omega (arith, most, kept_here.bought-most, n, sum-part g.totals.bought (w - 1)) };
-      sold-fits = record { trader = t; fits = omega (arith, most, kept_here.sold-most, n, sum-part g.totals.sold (w - 1)) };
-      delivered-fits = omega (arith, i, kept_here.delivered-most, low-is, l, ltb-false 1000 (Q g.terms.low) f.low-quantity);
-      taken-fits = omega (arith, i, kept_here.taken-most, high_is, h, ltb-false 1000 (Q g.terms.high) f.high-quantity);
+      bought_fits = record { trader = t; fits = omega (arith, most, kept_here.bought-most, n, sum-part g.totals.bought (w - 1)) };
+      sold_fits = record { trader = t; fits = omega (arith, most, kept_here.sold-most, n, sum-part g.totals.sold (w - 1)) };
+      delivered_fits = omega (arith, i, kept_here.delivered_most, low-is, l, ltb-false 1000 (Q g.terms.low) f.low-quantity);
+      taken_fits = omega (arith, i, kept_here.taken_most, high_is, h, ltb-false 1000 (Q g.terms.high) f.high-quantity);
     }
 
 pub returns-then-is_unusable : goal.returns-then-is_unusable
@@ -158,9 +158,9 @@ closed_record-requires c =
     let high-long : length g.high.bounds ≡ 8 = search rules in
     rw (to_z-of_z c.ranges.purchase, to_z-of_z c.ranges.delivered, to_z-of_z c.ranges.taken)
     (record {
-      period-open = before-eight g usable;
+      period_open = before_eight g usable;
       stands = is;
-      totals-fit = totals-fit g usable low-long high-long a.purchase a.delivered a.taken a.readings.now a.trader c.in-Bounds.low c.in-Bounds.high trader-good accepted b.good b.low-is b.high_is t.0;
+      totals_fit = totals_fit g usable low-long high-long a.purchase a.delivered a.taken a.readings.now a.trader c.in-Bounds.low c.in-Bounds.high trader-good accepted b.good b.low-is b.high_is t.0;
     })
 
 pub returns : goal.returns

@@ -8,11 +8,11 @@ use Rattle.ledger.proofs.closed_record.Goals as goal
 
 pub closed_entries-requires : goal.closed_entries-requires
 unfolding standing_of
-closed_entries-requires c = (c.requires.period-open, ap (λ (s : Standing). s.low) c.requires.stands)
+closed_entries-requires c = (c.requires.period_open, ap (λ (s : Standing). s.low) c.requires.stands)
 
 pub closed_entries-requires-2 : goal.closed_entries-requires-2
 unfolding standing_of
-closed_entries-requires-2 c = (c.requires.period-open, ap (λ (s : Standing). s.high) c.requires.stands)
+closed_entries-requires-2 c = (c.requires.period_open, ap (λ (s : Standing). s.high) c.requires.stands)
 
 pub returns : goal.returns
 unfolding closed_record

@@ -12,7 +12,7 @@ use Rattle.common.specs.Lists.{some_entry}
 use Rattle.terms.specs.Terms.{above1000, direction_terms}
 use Rattle.terms.specs.declared.Quantities.{Quantities}
 use Rattle.terms.specs.declared.DirectionTerms.{DirectionTerms}
-use Rattle.terms.proofs.Volumes.{rev-most, er-most}
+use Rattle.terms.proofs.Volumes.{rev_most, er-most}
 use Rattle.monitor.specs.Monitor.{rows_of, monitoring}
 use Rattle.monitor.proofs.monitor.Goals as goal
 
@@ -48,7 +48,7 @@ in-limit q above other is out = sym is ∙ (neither above other out).0
 
 pub overflow_cast-t : goal.overflow_cast-t
 overflow_cast-t c =
-    let h = rev-most _ c.of-t.ensures (in-limit _ _ _ c.above_1000_mw.ensures c.if-quantity_out.false) in
+    let h = rev_most _ c.of-t.ensures (in-limit _ _ _ c.above_1000_mw.ensures c.if-quantity_out.false) in
     omega arith
 
 pub overflow_cast-t-2 : goal.overflow_cast-t-2

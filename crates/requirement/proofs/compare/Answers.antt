@@ -17,10 +17,10 @@ loop-i-init c = begin _ _ _ _ _ _
 pub row_of-made-requires : goal.row_of-made-requires
 row_of-made-requires c =
     record {
-      rev-most = c.requires.0;
-      left-most = omega (arith, c.loop-i.invariant.passed);
-      short-most = omega (arith, c.loop-i.invariant.passed);
-      back-most = back_fits _ _ _ c.loop-i.invariant.passed (omega arith);
+      rev_most = c.requires.0;
+      left_most = omega (arith, c.loop-i.invariant.passed);
+      short_most = omega (arith, c.loop-i.invariant.passed);
+      back_most = back_fits _ _ _ c.loop-i.invariant.passed (omega arith);
     }
 
 pub overflow_sub-left : goal.overflow_sub-left

@@ -16,10 +16,10 @@ loop-i-init c = begin _ _ _ _ refl
 pub row_of-row-requires : goal.row_of-row-requires
 row_of-row-requires c =
     record {
-      rev-most = c.requires;
-      left-most = omega arith;
-      short-most = omega arith;
-      back-most = back_fits _ _ _ c.loop-i.invariant.passed c.loop-i-test.true;
+      rev_most = c.requires;
+      left_most = omega arith;
+      short_most = omega arith;
+      back_most = back_fits _ _ _ c.loop-i.invariant.passed c.loop-i-test.true;
     }
 
 pub overflow_sub-left : goal.overflow_sub-left

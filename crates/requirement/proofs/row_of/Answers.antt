@@ -17,7 +17,7 @@ returns c =
       to_z-of_z {z = d2.result} (sfits_of d2.type_inv),
       d.ensures,
       d2.ensures,
-      end-less a.rev a.shortfall a.back a.bound c.requires.back-most,
+      end-less a.rev a.shortfall a.back a.bound c.requires.back_most,
       sub-le_z0 a.rev a.shortfall,
       sub-le_z0 a.rev (a.shortfall + a.bound - a.back),
     )

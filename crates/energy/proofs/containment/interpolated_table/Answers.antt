@@ -9,7 +9,7 @@ use Rattle.energy.proofs.containment.interpolated_table.Goals as goal
 pub fill_by_steps-requires : goal.fill_by_steps-requires
 fill_by_steps-requires c =
     record {
-      factor-most = omega arith;
+      factor_most = omega arith;
       rule = rw c.containment_curve.ensures rule;
       there = search rules;
       room = λ d. omega (arith, zeros-at 501 d);

@@ -7,9 +7,9 @@ use Rattle.energy.proofs.containment.response_by_entry.Goals as goal
 
 product-most : (s : goal.Start) → s.args.factor * s.args.entry ≤ 4294967295 * 4294967295
 product-most s =
-    let factor-most : s.args.factor ≤ 4294967295 = search rules in
+    let factor_most : s.args.factor ≤ 4294967295 = search rules in
     let entry-most : s.args.entry ≤ 4294967295 = search rules in
-    mul-le-mul factor-most entry-most
+    mul-le-mul factor_most entry-most
 
 pub overflow_mul-result : goal.overflow_mul-result
 overflow_mul-result c = omega (arith, product-most c)

@@ -27,8 +27,8 @@ sum_responses-sums-requires c =
       c.requires,
       record {
         same = c.largest_deviations-most.ensures;
-        low-most = ltb-false 3000 most.low n.0;
-        high-most = ltb-false 3000 most.high n.1;
+        low_most = ltb-false 3000 most.low n.0;
+        high_most = ltb-false 3000 most.high n.1;
         count_most = omega (arith, (period-range (length c.args.readings.now) (sym c.is_period_count.ensures ∙ c.if-not-is_period_count.false)).most);
       },
     )

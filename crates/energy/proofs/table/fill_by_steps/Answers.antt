@@ -32,7 +32,7 @@ loop-i-preserved c =
     turn _ _ _ _ c.loop-i.invariant c.loop-i-test.true (points-there c.args.curve c.requires.rule long) c.fill_segment.auto.table c.fill_segment.ensures
 
 pub overflow_mul-factor : goal.overflow_mul-factor
-overflow_mul-factor c = omega (arith, flat-le _ _ _ _ c.loop-i.invariant, c.requires.factor-most)
+overflow_mul-factor c = omega (arith, flat-le _ _ _ _ c.loop-i.invariant, c.requires.factor_most)
 
 pub fill-requires : goal.fill-requires
 fill-requires c = rw c.parts_of.ensures (fill-fits _ _ _ _ c.loop-i.invariant c.requires)

@@ -12,7 +12,7 @@ overflow_cast-last c =
       c.response_by_entry-last.ensures,
       found-is c.args.factor c.stored_table-entries.result c.stored_table-entries.ensures 500 (omega arith),
       added-le c.args.factor 500,
-      c.requires.factor-most,
+      c.requires.factor_most,
     )
 
 pub fill-requires : goal.fill-requires

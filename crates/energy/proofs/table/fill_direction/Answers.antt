@@ -11,7 +11,7 @@ use Rattle.energy.proofs.table.fill_direction.Goals as goal
 pub fill_service-requires : goal.fill_service-requires
 fill_service-requires c =
     record {
-      factor-most = omega (arith, c.requires.quantity-most);
+      factor_most = omega (arith, c.requires.quantity_most);
       rule = (rules c.args.curves c.requires.rules).dc;
       there = omega (arith, c.requires.there);
       room = λ d. omega (arith, c.requires.room d);
@@ -25,7 +25,7 @@ fill_service-requires-2 c =
     room-left c.fill_service.ensures (1000000 * q.dm + 1000000 * q.dr) (1000000 * q.dc) (response-le q.dc c.args.curves.dc by.dc)
     (λ d. omega (arith, c.requires.room d)) in
     record {
-      factor-most = omega (arith, c.requires.quantity-most);
+      factor_most = omega (arith, c.requires.quantity_most);
       rule = by.dm;
       there = omega (arith, c.requires.there, c.fill_service.auto.table);
       room = λ d. omega (arith, room d);
@@ -42,7 +42,7 @@ fill_service-requires-3 c =
     room-left c.fill_service-2.ensures (1000000 * q.dr) (1000000 * q.dm) (response-le q.dm c.args.curves.dm by.dm)
     (λ d. omega (arith, room d)) in
     record {
-      factor-most = omega (arith, c.requires.quantity-most);
+      factor_most = omega (arith, c.requires.quantity_most);
       rule = by.dr;
       there = omega (arith, c.requires.there, c.fill_service-2.auto.table ∙ c.fill_service.auto.table);
       room = λ d. omega (arith, room2 d);

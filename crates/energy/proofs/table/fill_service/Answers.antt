@@ -8,7 +8,7 @@ use Rattle.energy.proofs.table.fill_service.Goals as goal
 
 pub fill_by_table-requires : goal.fill_by_table-requires
 fill_by_table-requires c =
-    record { factor-most = c.requires.factor-most; rule = rule; there = c.requires.there; room = c.requires.room }
+    record { factor_most = c.requires.factor_most; rule = rule; there = c.requires.there; room = c.requires.room }
 
 pub returns-then-by_table-is_containment : goal.returns-then-by_table-is_containment
 unfolding response

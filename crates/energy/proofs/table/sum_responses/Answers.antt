@@ -4,10 +4,10 @@ use Rattle.energy.proofs.Sums.{zeros-fit, same-sums}
 use Rattle.energy.proofs.table.sum_responses.Goals as goal
 
 pub fill_direction-requires : goal.fill_direction-requires
-fill_direction-requires c = zeros-fit _ _ _ c.requires.0.low-most c.requires.0.curves c.requires.1.low-most
+fill_direction-requires c = zeros-fit _ _ _ c.requires.0.low_most c.requires.0.curves c.requires.1.low_most
 
 pub fill_direction-requires-2 : goal.fill_direction-requires-2
-fill_direction-requires-2 c = zeros-fit _ _ _ c.requires.0.high-most c.requires.0.curves c.requires.1.high-most
+fill_direction-requires-2 c = zeros-fit _ _ _ c.requires.0.high_most c.requires.0.curves c.requires.1.high_most
 
 pub returns : goal.returns
 returns c =

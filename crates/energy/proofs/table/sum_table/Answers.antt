@@ -24,7 +24,7 @@ loop-i-init c = begin _ _ _
 pub bounds-lows-below : goal.bounds-lows-below
 bounds-lows-below c =
     rw (below-is (get_or c.args.readings.now (c.loop-i.i - 1) 0) _ c.high_deviation-above.ensures)
-    (there low_deviation c.args.readings.now c.loop-i.i _ c.loop-i-test.true c.loop-i.invariant.within c.requires.low-there)
+    (there low_deviation c.args.readings.now c.loop-i.i _ c.loop-i-test.true c.loop-i.invariant.within c.requires.low_there)
 
 pub overflow_add-low : goal.overflow_add-low
 overflow_add-low c =
@@ -36,7 +36,7 @@ overflow_add-low c =
 pub bounds-highs-above : goal.bounds-highs-above
 bounds-highs-above c =
     rw c.high_deviation-above.ensures
-    (there high_deviation c.args.readings.now c.loop-i.i _ c.loop-i-test.true c.loop-i.invariant.within c.requires.high-there)
+    (there high_deviation c.args.readings.now c.loop-i.i _ c.loop-i-test.true c.loop-i.invariant.within c.requires.high_there)
 
 pub overflow_add-high : goal.overflow_add-high
 overflow_add-high c =
