@@ -45,16 +45,16 @@ module _ {A : Type 0} (holds : A → Bool) (linked : A → A → Bool) where
 
   -- ---- a loop that tests a chain: what the entries from the i-th on decide, after the entry `last`
 
-  module _ (count : ℕ) (xs : List A) {decided : Bool} (last : A) (i : ℕ) (same : decided ≡ chain holds linked last (rest count xs i)) where
-    module _ (d : A) (h : i < count) (long : count ≤ length xs) where
+  module _ (xs : List A) {decided : Bool} (last : A) (i : ℕ) (same : decided ≡ chain holds linked last (drop i xs)) where
+    module _ (d : A) (h : i < length xs) where
       pub stops : holds last && linked last (get_or xs i d) ≡ false → decided ≡ false
       unfolding chain
-      stops bad = same ∙ (rw (next count xs i d h long, bad))
+      stops bad = same ∙ (rw (drop-next xs i d h, bad))
 
-      pub goes_on : holds last && linked last (get_or xs i d) ≡ true → decided ≡ chain holds linked (get_or xs i d) (rest count xs (i + 1))
+      pub goes_on : holds last && linked last (get_or xs i d) ≡ true → decided ≡ chain holds linked (get_or xs i d) (drop (i + 1) xs)
       unfolding chain
-      goes_on good = same ∙ (rw (next count xs i d h long, good))
+      goes_on good = same ∙ (rw (drop-next xs i d h, good))
 
-    pub ends : count ≤ i → decided ≡ holds last
+    pub ends : length xs ≤ i → decided ≡ holds last
     unfolding chain
-    ends h = same ∙ (rw (none_left count xs i h))
+    ends h = same ∙ (rw (drop_of_length-le xs h))

@@ -1,5 +1,5 @@
 -- Paper 01, "When a call declines": what a call answers, from its causes in the order in which it checks them. Assumes nothing.
-use Rattle.std.specs.Prelude.{Bool, true, false, not, cond, ◌&&◌, List, [], ◌∷◌, ℕ}
+use Rattle.std.specs.Prelude.{Bool, true, false, not, cond, ◌&&◌, List, [], ◌∷◌, ℕ, Result, Ok, Err}
 
 -- the number of a refusal; or no number, and what the call gives
 pub data Answer (A : Type 0) : Type 0 where
@@ -37,3 +37,8 @@ clear (c ∷ causes) = not c.holds && clear causes
 abbrev pub or_blank : {A : Type 0} → A → Answer A → A
 or_blank blank (refused number) = blank
 or_blank blank (given a) = a
+
+-- the answer that a function of the code gives: what is given, or an error with its number
+abbrev pub answered : {A E : Type 0} → (E → ℕ) → Result A E → Answer A
+answered number (Ok a) = given a
+answered number (Err e) = refused (number e)

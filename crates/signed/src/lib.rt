@@ -31,7 +31,7 @@ pub fn difference(a: u64, b: u64) -> i64
     ensures { result ≡ nearest (pos a -ℤ pos b) }
 {
     if a < b {
-        return -1 - common::smaller(b - a - 1, MOST) as i64;
+        return -1 - (b - a - 1).min(MOST) as i64;
     }
-    common::smaller(a - b, MOST) as i64
+    (a - b).min(MOST) as i64
 }

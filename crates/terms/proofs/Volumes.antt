@@ -5,7 +5,7 @@ use Prim.Native.Nat.{◌≤◌}
 use native.Mathlib.Omega.{arith}
 use borrow.Author.Tests.{ltb-false}
 use Rattle.terms.specs.Terms.{Q, direction_terms, above1000}
-use Rattle.terms.specs.declared.Quantities.{Quantities}
+use Rattle.terms.specs.Terms.{Quantities}
 use Rattle.terms.specs.declared.DirectionTerms.{DirectionTerms}
 
 module _ (q : Quantities) {t : DirectionTerms} (is : t ≡ direction_terms q) (h : above1000 q ≡ false) where

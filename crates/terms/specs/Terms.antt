@@ -1,15 +1,18 @@
 -- Paper 01, "Contract terms". Assumes nothing.
-use Rattle.std.specs.Prelude.{Bool, not, ◌||◌, [], ◌∷◌, ℕ, ◌+◌, ◌*◌, ltb, ℤ, pos}
+use Rattle.std.specs.Prelude.{Bool, not, ◌||◌, [], ◌∷◌, Result, ℕ, ◌+◌, ◌*◌, ltb, ℤ, pos}
 use Rattle.std.specs.Int.Signed.{lt_z}
-use Rattle.common.specs.Answer.{Answer, refused, given, cause, checked}
+use Rattle.common.specs.Answer.{Answer, cause, checked, answered}
 use Rattle.signed.specs.Sign.{within}
-use Rattle.terms.specs.declared.Quantities.{Quantities}
+use Rattle.terms.specs.declared.Services.{Services}
 use Rattle.terms.specs.declared.DirectionTerms.{DirectionTerms}
 use Rattle.terms.specs.declared.Terms.{Terms}
-use Rattle.terms.specs.declared.TermsAnswer.{TermsAnswer}
-use Rattle.terms.specs.declared.TermsAnswer.TheVariants.{Good, Quantity, Power}
+use Rattle.terms.specs.declared.TermsRefusal.{TermsRefusal}
+use Rattle.terms.specs.declared.TermsRefusal.TheVariants.{Quantity, Power}
 
 -- ---- a direction
+
+abbrev pub Quantities : Type 0
+Quantities = Services ℕ
 
 -- a direction's quantity Q is the sum of those of its services
 abbrev pub Q : Quantities → ℕ
@@ -66,8 +69,10 @@ terms_check t =
     ∷ [])
     tt
 
--- the number of each case of the code's answer
-abbrev pub answer_of : TermsAnswer → Answer Unit
-answer_of Good = given tt
-answer_of Quantity = refused 1
-answer_of Power = refused 2
+-- the number of each of the code's refusals
+abbrev pub refusal_number : TermsRefusal → ℕ
+refusal_number Quantity = 1
+refusal_number Power = 2
+
+abbrev pub answer_of : Result Unit TermsRefusal → Answer Unit
+answer_of = answered refusal_number

@@ -2,50 +2,62 @@
 #![tactic(auto)]
 
 ghost use Rattle.std.specs.Prelude.{◌≡◌, ◌<◌, ◌^◌};
-ghost use Rattle.common.specs.Answer.{number_of};
-ghost use Rattle.terms.specs.Terms.{direction_terms, above1000, power, limit_broken, limits_broken, answer_of, terms_check};
+ghost use Rattle.terms.specs.Terms.{direction_terms, above1000, power, limit_broken, limits_broken, refusal_number, answer_of, terms_check};
 
-#[derive(Clone, Copy)]
-pub struct Containment {}
+use common::Refusal;
 
-#[derive(Clone, Copy)]
-pub struct Moderation {}
+// A service of Dynamic Response. Per MW: response energy volume and recovery volume in kWh, reserved power in kW.
+pub trait Service {
+    const REV: u64;
 
-#[derive(Clone, Copy)]
-pub struct Regulation {}
+    const ER: u64;
 
-// Per MW: response energy volume and recovery volume in kWh, reserved power in kW.
-impl Containment {
-    pub const REV: u64 = 250;
-
-    pub const ER: u64 = 50;
-
-    pub const RESERVED: u64 = 100;
+    const RESERVED: u64;
 }
 
-impl Moderation {
-    pub const REV: u64 = 500;
+#[derive(Clone, Copy)]
+pub struct Containment;
 
-    pub const ER: u64 = 100;
+#[derive(Clone, Copy)]
+pub struct Moderation;
 
-    pub const RESERVED: u64 = 200;
+#[derive(Clone, Copy)]
+pub struct Regulation;
+
+impl Service for Containment {
+    const REV: u64 = 250;
+
+    const ER: u64 = 50;
+
+    const RESERVED: u64 = 100;
 }
 
-impl Regulation {
-    pub const REV: u64 = 1000;
+impl Service for Moderation {
+    const REV: u64 = 500;
 
-    pub const ER: u64 = 200;
+    const ER: u64 = 100;
 
-    pub const RESERVED: u64 = 400;
+    const RESERVED: u64 = 200;
+}
+
+impl Service for Regulation {
+    const REV: u64 = 1000;
+
+    const ER: u64 = 200;
+
+    const RESERVED: u64 = 400;
+}
+
+// One value for each service.
+#[derive(Clone, Copy)]
+pub struct Services<T> {
+    pub dc: T,
+    pub dm: T,
+    pub dr: T,
 }
 
 // A direction's quantity for each service, in MW.
-#[derive(Clone, Copy)]
-pub struct Quantities {
-    pub dc: u32,
-    pub dm: u32,
-    pub dr: u32,
-}
+pub type Quantities = Services<u32>;
 
 // The sums over a direction's services: MW, kWh, kWh, kW.
 #[derive(Clone, Copy)]
@@ -83,9 +95,8 @@ pub struct Terms {
     pub import_limit: i64,
 }
 
-#[derive(Clone, Copy)]
-pub enum TermsAnswer {
-    Good,
+#[derive(Clone, Copy, Debug, PartialEq, Eq)]
+pub enum TermsRefusal {
     // A direction is above 1,000 MW.
     Quantity,
     // A power limit is outside its range, or overbid.
@@ -124,27 +135,27 @@ pub fn limits_broken(t: Terms) -> bool
 
 // The terms check: refusal 1, then 2.
 #[tactic(auto, unfolding(crate::specs::Terms::terms_check))]
-pub fn check(t: Terms) -> TermsAnswer
+pub fn check(t: Terms) -> Result<(), TermsRefusal>
     ensures { answer_of result ≡ terms_check t }
 {
     let quantity = above_1000_mw(t.low) | above_1000_mw(t.high);
     let power = limits_broken(t);
     if quantity {
-        return TermsAnswer::Quantity;
+        return Err(TermsRefusal::Quantity);
     }
     if power {
-        return TermsAnswer::Power;
+        return Err(TermsRefusal::Power);
     }
-    TermsAnswer::Good
+    Ok(())
 }
 
-// The number of an answer, 0 for good terms.
-pub fn number(answer: TermsAnswer) -> u32
-    ensures { result ≡ number_of (answer_of answer) }
-{
-    match answer {
-        TermsAnswer::Good => 0,
-        TermsAnswer::Quantity => 1,
-        TermsAnswer::Power => 2,
+impl Refusal for TermsRefusal {
+    ghost refusal = { refusal_number };
+
+    fn number(self) -> u32 {
+        match self {
+            TermsRefusal::Quantity => 1,
+            TermsRefusal::Power => 2,
+        }
     }
 }
