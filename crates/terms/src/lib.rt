@@ -123,6 +123,7 @@ fn limit_broken(limit: i64, power: u64) -> bool
     !((0 <= limit) & (limit <= 2_000_000)) | (limit < power as i64)
 }
 
+#[tactic(auto, unfolding(crate::specs::Terms::limits_broken))]
 pub fn limits_broken(t: Terms) -> bool
     ensures { result ≡ limits_broken t }
 {
