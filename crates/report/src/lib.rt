@@ -96,18 +96,20 @@ fn read_energies(line: &[u8]) -> Option<Energies>
     None
 }
 
-// The lines of a text, from line `line` on: line 1 has 37 bytes, each line after it 19.
+// An iterator over the lines of a text, from line `line` on: line 1 has 37 bytes, each line after it 19.
 #[derive(Clone, Copy)]
 struct Reader<'a> {
     text: &'a [u8],
     line: usize,
 }
 
-// Before line 1.
-fn reader_of<'a>(text: &'a [u8]) -> Reader<'a>
-    ensures { (result.text ≡ text.entry) × (result.line ≡ 1) }
-{
-    Reader { text, line: 1 }
+impl<'a> Reader<'a> {
+    // Before line 1.
+    fn of(text: &'a [u8]) -> Reader<'a>
+        ensures { (result.text ≡ text.entry) × (result.line ≡ 1) }
+    {
+        Reader { text, line: 1 }
+    }
 }
 
 impl<'a> Iterator for Reader<'a> {
@@ -117,7 +119,7 @@ impl<'a> Iterator for Reader<'a> {
 
     ghost remaining = { λ s. at_most (length s.text.now - s.line) };
 
-    // The next line; nothing where the text ends before its end.
+    // The next line; nothing where the text ends before the line does.
     fn next(&mut self) -> Option<&'a [u8]> {
         let text = self.text;
         let n = self.line;
@@ -138,13 +140,14 @@ impl<'a> Iterator for Reader<'a> {
     }
 }
 
+// What a text says; nothing where it is malformed.
 fn parse(text: &[u8]) -> Option<Input>
     ensures { result ≡ parsed text.now }
 {
     if text.len() != 189 {
         return None;
     }
-    let mut reader = reader_of(text);
+    let mut reader = Reader::of(text);
     let quantities = read_terms(reader.next()?)?;
     let mut bounds = [0u32; 8];
     let mut reported = [0u32; 8];

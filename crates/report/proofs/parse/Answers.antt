@@ -9,16 +9,16 @@ pub returns-then-text-ne189 : goal.returns-then-text-ne189
 returns-then-text-ne189 c = wrong-length _ c.if-text-ne189.true
 
 pub read_terms-requires : goal.read_terms-requires
-read_terms-requires c = rw (first_given c.reader_of-reader.ensures c.in_ok-next.ensures.steps) (terms_long _ (omega arith))
+read_terms-requires c = rw (first_given c.of-reader.ensures c.in_ok-next.ensures.steps) (terms_long _ (omega arith))
 
 pub returns-in_err-quantities : goal.returns-in_err-quantities
 returns-in_err-quantities c =
     c.from_residual-in_err-quantities.ensures
-    ∙ wrong-terms _ (c.in_err-quantities.ensures ∙ ap terms_of (first_given c.reader_of-reader.ensures c.in_ok-next.ensures.steps))
+    ∙ wrong-terms _ (c.in_err-quantities.ensures ∙ ap terms_of (first_given c.of-reader.ensures c.in_ok-next.ensures.steps))
 
 pub loop-i-init : goal.loop-i-init
 loop-i-init c =
-    let r = c.reader_of-reader.ensures in
+    let r = c.of-reader.ensures in
     let m = c.in_ok-next.ensures.steps in
     record { text_is = ap (λ b. b.now) (m.keeps ∙ r.0); line_is = omega (arith, m.goes_on, r.1); parsed = begin _ }
 
@@ -46,5 +46,5 @@ loop-i-preserved c =
 
 pub returns : goal.returns
 returns c =
-    let first = first_given c.reader_of-reader.ensures c.in_ok-next.ensures.steps in
+    let first = first_given c.of-reader.ensures c.in_ok-next.ensures.steps in
     done _ c.loop-i.invariant.parsed c.loop-i-test.false c.if-text-ne189.false (c.in_ok-quantities.ensures ∙ ap terms_of first)
