@@ -1,20 +1,18 @@
 -- `columns::read_number` meets its contract. The loop's invariant is `Read`. Assumes nothing.
-use native.Mathlib.Omega.{arith}
-use lib.ListN.{length-take}
-use Rattle.columns.proofs.Reading.{begin, value-small, step, done}
+use lib.ListN.{length-append}
+use Rattle.std.proofs.lemmas.Iterator.{YieldsList-from_slice, YieldsList-from_take}
+use Rattle.std.proofs.lemmas.Iterator.Consumers.{YieldsList-turn, YieldsList-at}
+use Rattle.columns.proofs.Reading.{value-small, step}
 use Rattle.columns.proofs.read_number.Goals as goal
 
-pub loop-i-init : goal.loop-i-init
-loop-i-init c = begin _
-
-pub returns-then-text-i : goal.returns-then-text-i
-returns-then-text-i c = done c.loop-i.invariant (rw length-take (omega arith))
-
 pub next-f-requires : goal.next-f-requires
-next-f-requires c = value-small c.loop-i.invariant c.loop-i-test.true
+next-f-requires c =
+    let a = c.take-b-items.ensures in
+    let road = YieldsList-at c.into_iter-b-iterator.ensures.into_iter_gives (YieldsList-from_take 9 (YieldsList-at a.source (YieldsList-from_slice c.args.text.now cc)) a.count) in
+    value-small c.loop-b.invariant (YieldsList-turn road c.loop-b.yielded _ c.loop-b.yielded_by _ _ c.in-Some.b c.in-Some.is c.next.ensures.steps)
 
-pub loop-i-preserved : goal.loop-i-preserved
-loop-i-preserved c = step c.loop-i.invariant c.loop-i-test.true c.if-text-i.false _ c.next-f.ensures
-
-pub returns : goal.returns
-returns c = done c.loop-i.invariant (rw length-take (omega arith))
+pub loop-b-preserved : goal.loop-b-preserved
+loop-b-preserved c =
+    let a = c.take-b-items.ensures in
+    let road = YieldsList-at c.into_iter-b-iterator.ensures.into_iter_gives (YieldsList-from_take 9 (YieldsList-at a.source (YieldsList-from_slice c.args.text.now cc)) a.count) in
+    rw length-append (step c.loop-b.invariant (YieldsList-turn road c.loop-b.yielded _ c.loop-b.yielded_by _ _ c.in-Some.b c.in-Some.is c.next.ensures.steps) c.next-f.ensures)
