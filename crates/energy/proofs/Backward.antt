@@ -7,9 +7,9 @@ use lib.ListN.{length, drop, get_or, length-drop}
 use lib.Seq.{drop-length}
 use Rattle.common.specs.Lists.{sum}
 use Rattle.common.proofs.Lists.{drop-next, sum-le}
+use Rattle.common.specs.declared.Directions.{Directions}
 use Rattle.energy.specs.Period.{low_deviation, high_deviation}
 use Rattle.energy.specs.Table.{table_sum, table_sums, sums_from}
-use Rattle.energy.specs.declared.table.Sums.{Sums}
 
 -- ---- a direction's sum from a place on
 
@@ -44,10 +44,10 @@ module _ (lows highs rs : List ℕ) where
 
   module _ {i low high : ℕ} (r : Running i low high) where
     low_sum : low ≡ table_sum low_deviation lows (drop i rs)
-    low_sum = ap (λ (s : Sums). s.low) r.sums
+    low_sum = ap (λ (s : Directions ℕ). s.low) r.sums
 
     high_sum : high ≡ table_sum high_deviation highs (drop i rs)
-    high_sum = ap (λ (s : Sums). s.high) r.sums
+    high_sum = ap (λ (s : Directions ℕ). s.high) r.sums
 
     module _ (h : 0 < i) {below above : ℕ} (b : below ≡ low_deviation (get_or rs (i - 1) 0)) (a : above ≡ high_deviation (get_or rs (i - 1) 0)) where
       pub low_fits : ((k : ℕ) → get_or lows k 0 < 2 ^ 32) → length rs ≤ 2 ^ 32 → low + get_or lows below 0 < 2 ^ 64
