@@ -19,7 +19,7 @@ overflow_add-to c =
 pub returns : goal.returns
 returns c =
     rw (
-      c.smaller.ensures,
+      c.saturating_sub.ensures,
       c.above_zero.ensures,
       c.below_zero.ensures,
       c.above_zero-2.ensures,
