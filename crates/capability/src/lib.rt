@@ -129,13 +129,14 @@ fn in_range(z: i64) -> bool
     (-2_000_000 <= z) & (z <= 2_000_000)
 }
 
-// By how much a is above b; 0 if it is not. With the parts below 0 added to both, no sign is left.
+// By how much a is above b; 0 if it is not.
 fn excess(a: i64, b: i64) -> u64
     ensures { result ≡ above (a -ℤ b) }
 {
-    let from = signed::above_zero(b) + signed::below_zero(a);
-    let to = signed::above_zero(a) + signed::below_zero(b);
-    to.saturating_sub(from)
+    if a < b {
+        return 0;
+    }
+    a.abs_diff(b)
 }
 
 impl Limits {
@@ -143,8 +144,7 @@ impl Limits {
         ensures { result ≡ every in_range (self.mil ∷ self.sil ∷ self.sel ∷ self.mel ∷ self.ol ∷ []) }
     {
         in_range(self.mil)
-            & (in_range(self.sil)
-                & (in_range(self.sel) & (in_range(self.mel) & in_range(self.ol))))
+            & (in_range(self.sil) & (in_range(self.sel) & (in_range(self.mel) & in_range(self.ol))))
     }
 
     #[tactic(auto, unfolding(crate::specs::Capability::limits_rule))]
@@ -193,7 +193,7 @@ impl Limits {
         0
     }
 
-    // The mirror image of headroom, which the limits with their signs changed would have; but the i64 of least value has no such limit.
+    // Headroom's mirror image, and yet not the headroom of the limits with their signs changed: the least i64 has no opposite.
     #[tactic(auto, unfolding(crate::specs::Capability::footroom))]
     fn footroom(self) -> u64
         ensures { result ≡ above (footroom self) }
@@ -235,6 +235,7 @@ impl LinePoint for Point {
 }
 
 #[tactic(auto, unfolding(crate::specs::Capability::points_rule))]
+// Two to five points on a line, the first at room 0.
 fn points_hold(points: &[Point]) -> bool
     ensures { result ≡ points_rule points.now }
 {

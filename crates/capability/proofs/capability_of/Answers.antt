@@ -1,5 +1,5 @@
 -- `capability::capability_of` meets its contract. The loop's invariant is `Reached`. Assumes nothing.
-use mathlib.Core.Path.{◌≡◌, sym, ap, ◌∙◌}
+use mathlib.Core.Path.{sym, ap, ◌∙◌}
 use native.Mathlib.Omega.{arith}
 use borrow.Author.Rules.{rules}
 use Rattle.common.specs.Fraction.{rounded_down}
