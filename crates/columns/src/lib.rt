@@ -14,6 +14,18 @@ pub enum Field {
     Malformed,
 }
 
+impl Field {
+    // The number, where the columns hold one.
+    pub fn number(self) -> Option<u32>
+        ensures { result ≡ Number.number_in self }
+    {
+        match self {
+            Field::Number(n) => Some(n),
+            _ => None,
+        }
+    }
+}
+
 // ---- reading
 
 // One column more. Eight columns have a number below 100,000,000, so nine fit a u32.

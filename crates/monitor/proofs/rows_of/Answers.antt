@@ -1,14 +1,12 @@
--- `monitor::rows_of` meets its contract. The loop's invariant is `Filled`, and a turn keeps it by `step`. Assumes nothing.
-use mathlib.Core.Path.{refl}
-use Rattle.monitor.proofs.Rows.{begin, done, step}
+-- `monitor::rows_of` meets its contract. Assumes nothing.
+use Rattle.std.proofs.Common.{ℕ, suc, rules, tests, ◌∙◌}
+use Rattle.monitor.proofs.Rows.{made_is, judged_is, rows_are}
+use Rattle.monitor.specs.Monitor.{judged_row}
+use Rattle.monitor.specs.declared.Row.{Row}
 use Rattle.monitor.proofs.rows_of.Goals as goal
 
-pub loop-i-init : goal.loop-i-init
-loop-i-init c = begin _ _ _ _ _ refl
-
-pub loop-i-preserved : goal.loop-i-preserved
-loop-i-preserved c =
-    step _ _ _ _ c.loop-i.invariant _ c.table_of.ensures _ c.loop-i-test.true _ c.judge.ensures
-
 pub returns : goal.returns
-returns c = done _ _ _ _ c.loop-i.invariant c.loop-i-test.false
+returns c =
+    let a = c.args in
+    let period : ℕ → Row = λ i. judged_row a.rev a.er a.bounds a.reported (suc i) in
+    made_is _ 8 period _ (λ i y q below k. search (rules, tests, judged_is)) _ (period 0) c.from_fn.ensures.items ∙ rows_are _ _ _ _

@@ -1,23 +1,16 @@
--- `monitor::some_above` meets its contract. The loop's invariant: what is left of the list says the same as the whole. Assumes nothing.
-use mathlib.Core.Path.{◌≡◌}
-use native.Mathlib.Omega.{arith}
-use borrow.Author.Rules.{rules}
-use borrow.Author.Tests.{lt-ltb, le-ltb}
-use lib.ListN.{length}
-use Rattle.common.proofs.Lists.{some-found, some-passed, some-none}
+-- `monitor::some_above` meets its contract. Assumes nothing.
+use Rattle.std.proofs.Common.{◌≡◌, Bool, ◌||◌, List, [], ◌∷◌, ltb, refl, rules, tests, ap, ◌∙◌}
+use Rattle.std.specs.List.{list_any}
+use Rattle.std.proofs.lemmas.Iterator.{YieldsList-from_slice}
+use Rattle.std.proofs.lemmas.Iterator.Search.{any_from_yields_List}
+use Rattle.common.specs.Lists.{some_entry}
 use Rattle.monitor.proofs.some_above.Goals as goal
 
-pub returns-then-limit-entries : goal.returns-then-limit-entries
-returns-then-limit-entries c =
-    let eight : length c.args.entries ≡ 8 = search rules in
-    some-found _ _ _ 0 (omega arith) c.loop-i.invariant.1 (lt-ltb _ _ c.if-limit-entries.true)
-
-pub loop-i-preserved : goal.loop-i-preserved
-loop-i-preserved c =
-    let eight : length c.args.entries ≡ 8 = search rules in
-    (search rules, some-passed _ _ _ 0 (omega arith) c.loop-i.invariant.1 (le-ltb _ _ c.if-limit-entries.false))
+-- std's word for the same test of a list
+any-is : {A : Type 0} (holds : A → Bool) (xs : List A) → list_any holds xs ≡ some_entry holds xs
+unfolding some_entry
+any-is holds [] = refl
+any-is holds (x ∷ xs) = ap (λ (b : Bool). holds x || b) (any-is holds xs)
 
 pub returns : goal.returns
-returns c =
-    let eight : length c.args.entries ≡ 8 = search rules in
-    some-none _ _ _ (omega arith) c.loop-i.invariant.1
+returns c = any_from_yields_List (ltb c.args.limit) _ _ _ c.any.ensures.ran (YieldsList-from_slice c.args.entries cc) (λ x b q k. search (rules, tests)) ∙ any-is _ _
