@@ -14,14 +14,13 @@ use Rattle.common.specs.Fraction.{rounded_up}
 use Rattle.common.specs.Lists.{every_from}
 use Rattle.common.proofs.Lists.{sum_same, entry-holds, every-entry}
 use Rattle.common.proofs.Tests.{both_true, by-test}
-use Rattle.terms.specs.declared.Quantities.{Quantities}
-use Rattle.energy.specs.Curve.{containment_curve, share_from, response_to, response}
+use Rattle.terms.specs.Terms.{Quantities}
+use Rattle.energy.specs.Curve.{containment_curve, share_from, response_to, response, Curves}
 use Rattle.energy.specs.Containment.{containment_share, entry_rule, table_rule, entry_for, response_by_table, is_containment, service_by_table, bound_by_table, TableServes}
 use Rattle.energy.specs.Period.{low_deviation, high_deviation, responses_by, responses, bound}
 use Rattle.energy.specs.Rate.{divisor}
 use Rattle.energy.specs.Table.{Added}
 use Rattle.energy.specs.declared.curve.Curve.{Curve}
-use Rattle.energy.specs.declared.curve.Curves.{Curves}
 use Rattle.energy.proofs.Rounding.{up-exact, up_same}
 use Rattle.energy.proofs.StockCurve.{positive, flat, Divides, divides, stock-response}
 use Rattle.energy.proofs.Tables.{either, zeros-at}

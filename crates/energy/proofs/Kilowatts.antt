@@ -6,13 +6,12 @@ use native.Mathlib.Omega.{arith}
 use lib.ListN.{length}
 use Rattle.common.specs.Fraction.{rounded_up}
 use Rattle.common.specs.Lists.{sum}
-use Rattle.terms.specs.declared.Quantities.{Quantities}
-use Rattle.energy.specs.Curve.{points_of, share_at, response}
+use Rattle.terms.specs.Terms.{Quantities}
+use Rattle.energy.specs.Curve.{points_of, share_at, response, Curves}
 use Rattle.energy.specs.Period.{responses_by, responses, response_sum_by, response_sum, bound}
 use Rattle.energy.specs.Rate.{divisor}
 use Rattle.energy.specs.Kilowatts.{kilowatts, bound_by_kilowatts, BoundsFall}
 use Rattle.energy.specs.declared.curve.Curve.{Curve}
-use Rattle.energy.specs.declared.curve.Curves.{Curves}
 use Rattle.energy.proofs.Rounding.{up_none, up-ge, up-near, up_le}
 
 -- watts that n responses come to, beside the kilowatts that they come to by 01's rule: each of these is less than a kW more

@@ -1,15 +1,17 @@
 -- The points of a curve: what its rule says of each, and the loops that pass them one by one. Assumes nothing.
-use mathlib.Core.Path.{◌≡◌, subst, ◌∙◌}
+use mathlib.Core.Path.{◌≡◌, sym, subst, ◌∙◌}
 use mathlib.Core.Bool.{true, false, ◌&&◌}
 use mathlib.Core.List.{List, ◌∷◌}
-use Prim.Native.Nat.{ℕ, ◌+◌, ◌≤◌, ◌<◌}
+use Prim.Native.Nat.{ℕ, ◌+◌, ◌-◌, ◌≤◌, ◌<◌}
 use native.Mathlib.Omega.{arith}
-use borrow.Author.Tests.{le-leb, lt-leb, eq-eqb, ne_eqb, lt-ltb, le-ltb, leb-true, ltb-true}
+use borrow.Author.Tests.{le-leb, lt-leb, lt-ltb, le-ltb, leb-true, ltb-true}
 use lib.Dec.{leb, eqb}
-use lib.ListN.{length, drop, get_or}
+use lib.ListN.{length, drop, get_or, take, length-take, length-drop, drop_of_length-le}
+use lib.Seq.{take_all}
 use Rattle.common.specs.Fraction.{whole}
 use Rattle.common.specs.Lists.{chain}
-use Rattle.common.proofs.Chains.{next, none_left, link, onward, first_holds}
+use Rattle.common.proofs.Chains.{link, onward, first_holds}
+use Rattle.common.proofs.Lists.{drop-next}
 use Rattle.common.proofs.Tests.{both_true}
 use Rattle.energy.specs.Curve.{blank, points_of, in_range, rises, points_rule, curve_rule, between, share_from, share_at}
 use Rattle.energy.specs.declared.curve.Point.{Point}
@@ -43,16 +45,6 @@ module _ (p q : Point) (ps : List Point) (e : chain in_range rises p (q ∷ ps) 
   rule-next = onward in_range rises p q ps e
 
 module _ (c : Curve) where
-  abbrev pub at : ℕ → Point
-  at i = get_or c.points i blank
-
-  -- the points from the i-th on
-  abbrev rest : ℕ → List Point
-  rest i = drop i (points_of c)
-
-  first : 2 ≤ c.count → c.count ≤ length c.points → rest 0 ≡ at 0 ∷ rest 1
-  first few long = next c.count c.points 0 blank (omega arith) long
-
   pub counted : curve_rule c ≡ true → (2 ≤ c.count) × (c.count ≤ 5)
   unfolding curve_rule
   counted e =
@@ -63,12 +55,7 @@ module _ (c : Curve) where
   unfolding curve_rule
   ruled e = (both_true (leb 2 c.count && leb c.count 5) (points_rule (points_of c)) e).1
 
-  -- ---- the loop of `curve_holds`: what the points from the i-th on decide, after the last one passed
-
-  pub record Passed (last : Point) (i : ℕ) : Type 0 where
-    pub within : i ≤ c.count
-    pub most : c.count ≤ 5
-    pub same : curve_rule c ≡ chain in_range rises last (rest i)
+  -- ---- what `curve_holds` tests
 
   pub too_few : c.count < 2 → curve_rule c ≡ false
   unfolding curve_rule
@@ -78,73 +65,80 @@ module _ (c : Curve) where
   unfolding curve_rule
   too_many h = rw (le-leb 2 c.count (omega arith), lt-leb c.count 5 h)
 
-  module _ (few : 2 ≤ c.count) (many : c.count ≤ 5) (long : c.count ≤ length c.points) where
-    pub first_above : ((at 0).share ≡ 0 → ⊥) → curve_rule c ≡ false
-    unfolding curve_rule
-    first_above h = rw (le-leb 2 c.count few, le-leb c.count 5 many, first few long, ne_eqb (at 0).share 0 h)
+  -- the points that are counted: the first, and the others as the code cuts them off
+  module _ {ps : List Point} (are : ps ≡ points_of c) where
+    abbrev pub first-of : Point
+    first-of = get_or ps 0 blank
 
-    pub begin : (at 0).share ≡ 0 → Passed (at 0) 1
-    unfolding curve_rule
-    begin h =
-        record {
-          within = omega arith;
-          most = many;
-          same = rw (le-leb 2 c.count few, le-leb c.count 5 many, first few long, eq-eqb (at 0).share 0 h);
-        }
+    abbrev pub others-of : List Point
+    others-of = take (length ps - 1) (drop 1 ps)
 
-  -- ---- the loop of `fill_by_steps`: from the point `last` on, the points from the i-th on decide the share
+    module _ (few : 2 ≤ c.count) (long : length c.points ≡ 5) where
+      pub some-point : 1 ≤ length ps
+      some-point = rw are (simp length-take (omega arith))
 
+      pub first_and_others : points_of c ≡ first-of ∷ others-of
+      first_and_others =
+          let e : length (drop 1 ps) ≤ length ps - 1 = omega (arith, length-drop 1 ps) in
+          rw (take_all (length ps - 1) (drop 1 ps) e) (sym are ∙ drop-next ps 0 blank some-point)
+
+      pub holds : c.count ≤ 5 → eqb first-of.share 0 && chain in_range rises first-of others-of ≡ curve_rule c
+      unfolding curve_rule
+      holds many = rw (le-leb 2 c.count few, le-leb c.count 5 many, first_and_others)
+
+    pub ruled-by : curve_rule c ≡ true → length c.points ≡ 5 → points_rule (first-of ∷ others-of) ≡ true
+    ruled-by rule long = subst (λ (qs : List Point). points_rule qs ≡ true) (first_and_others (counted rule).0 long) (ruled rule)
+
+-- ---- the loop of `fill_by_steps`: from the point `last` on, the points from the i-th on decide the share
+
+module _ (first : Point) (others : List Point) where
   pub record Reached (last : Point) (i : ℕ) : Type 0 where
-    pub rule : chain in_range rises last (rest i) ≡ true
-    pub same : (d : ℕ) → last.deviation ≤ d → share_at (points_of c) d ≡ share_from last (rest i) d
+    pub rule : chain in_range rises last (drop i others) ≡ true
+    pub same : (d : ℕ) → last.deviation ≤ d → share_at (first ∷ others) d ≡ share_from last (drop i others) d
 
-  module _ (rule : curve_rule c ≡ true) (long : c.count ≤ length c.points) where
-    starting : rest 0 ≡ at 0 ∷ rest 1
-    starting = first (counted rule).0 long
+  pub below-first : (d : ℕ) → d < first.deviation → share_at (first ∷ others) d ≡ whole 0
+  below-first d h = rw (lt-ltb d first.deviation h)
 
-    started : points_rule (at 0 ∷ rest 1) ≡ true
-    started = subst (λ (ps : List Point). points_rule ps ≡ true) starting (ruled rule)
-
-    pub below-first : (d : ℕ) → d < (at 0).deviation → share_at (points_of c) d ≡ whole 0
-    below-first d h = rw (starting, lt-ltb d (at 0).deviation h)
-
-    pub reach-first : Reached (at 0) 1
-    reach-first =
-        record {
-          rule = (both_true (eqb (at 0).share 0) (chain in_range rises (at 0) (rest 1)) started).1;
-          same = λ d h. rw (starting, le-ltb d (at 0).deviation h);
-        }
+  pub reach-first : points_rule (first ∷ others) ≡ true → Reached first 0
+  reach-first rule =
+      record {
+        rule = (both_true (eqb first.share 0) (chain in_range rises first others) rule).1;
+        same = λ d h. rw (le-ltb d first.deviation h);
+      }
 
   module _ {last : Point} {i : ℕ} (r : Reached last i) where
     pub last-range : InRange last
-    last-range = range-of last (rest i) r.rule
+    last-range = range-of last (drop i others) r.rule
 
-    pub flat : c.count ≤ i → (d : ℕ) → last.deviation ≤ d → share_at (points_of c) d ≡ whole last.share
+    pub flat : length others ≤ i → (d : ℕ) → last.deviation ≤ d → share_at (first ∷ others) d ≡ whole last.share
     unfolding share_from
-    flat h d l = r.same d l ∙ (rw (none_left c.count c.points i h))
+    flat h d l = r.same d l ∙ (rw (drop_of_length-le others h))
 
-    module _ (h : i < c.count) (long : c.count ≤ length c.points) where
-      following : rest i ≡ at i ∷ rest (i + 1)
-      following = next c.count c.points i blank h long
+    module _ (h : i < length others) where
+      abbrev pub at : Point
+      at = get_or others i blank
 
-      rule-there : chain in_range rises last (at i ∷ rest (i + 1)) ≡ true
+      following : drop i others ≡ at ∷ drop (i + 1) others
+      following = drop-next others i blank h
+
+      rule-there : chain in_range rises last (at ∷ drop (i + 1) others) ≡ true
       rule-there = subst (λ (ps : List Point). chain in_range rises last ps ≡ true) following r.rule
 
-      pub next-rises : Rises last (at i)
-      next-rises = rises_next last (at i) (rest (i + 1)) rule-there
+      pub next-rises : Rises last at
+      next-rises = rises_next last at (drop (i + 1) others) rule-there
 
-      pub next-range : InRange (at i)
-      next-range = range-of (at i) (rest (i + 1)) (rule-next last (at i) (rest (i + 1)) rule-there)
+      pub next-range : InRange at
+      next-range = range-of at (drop (i + 1) others) (rule-next last at (drop (i + 1) others) rule-there)
 
-      pub here : (d : ℕ) → last.deviation ≤ d → d < (at i).deviation → share_at (points_of c) d ≡ between last (at i) d
+      pub here : (d : ℕ) → last.deviation ≤ d → d < at.deviation → share_at (first ∷ others) d ≡ between last at d
       unfolding share_from
-      here d l b = r.same d l ∙ (rw (following, lt-ltb d (at i).deviation b))
+      here d l b = r.same d l ∙ (rw (following, lt-ltb d at.deviation b))
 
-      pub reach-next : Reached (at i) (i + 1)
+      pub reach-next : Reached at (i + 1)
       unfolding share_from
       reach-next =
           let f = next-rises.farther in
           record {
-            rule = rule-next last (at i) (rest (i + 1)) rule-there;
-            same = λ d b. r.same d (omega arith) ∙ (rw (following, le-ltb d (at i).deviation b));
+            rule = rule-next last at (drop (i + 1) others) rule-there;
+            same = λ d b. r.same d (omega arith) ∙ (rw (following, le-ltb d at.deviation b));
           }

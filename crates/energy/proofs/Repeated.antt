@@ -6,10 +6,10 @@ use Prim.Native.Nat.{ℕ, zero, suc, ◌+◌, ◌*◌, ◌<◌}
 use native.Mathlib.Omega.{arith}
 use lib.ListN.{length, replicate, length-append, length-replicate}
 use Rattle.common.specs.Lists.{sum, every}
-use Rattle.terms.specs.declared.Quantities.{Quantities}
+use Rattle.terms.specs.Terms.{Quantities}
 use Rattle.energy.specs.Period.{is_reading, good_readings, low_deviation, high_deviation, responses, response_sum, bound, period_energy, repeated, TenTimes}
 use Rattle.energy.specs.Rate.{two, twenty, period_count, divisor}
-use Rattle.energy.specs.declared.curve.Curves.{Curves}
+use Rattle.energy.specs.Curve.{Curves}
 use Rattle.energy.proofs.Rates.{good-period}
 use Rattle.energy.proofs.Rounding.{up-scaled}
 

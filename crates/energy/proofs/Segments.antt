@@ -18,8 +18,8 @@ width p q = q.deviation - p.deviation
 abbrev rise : ℕ → Point → Point → ℕ
 rise factor p q = factor * (q.share - p.share)
 
-abbrev pub first : ℕ → ℕ
-first start = start * 2 ^ 32 + (2 ^ 32 - 1)
+abbrev pub first-parts : ℕ → ℕ
+first-parts start = start * 2 ^ 32 + (2 ^ 32 - 1)
 
 abbrev step : ℕ → Point → Point → ℕ
 step factor p q = rise factor p q * 2 ^ 32 / width p q
@@ -30,7 +30,7 @@ module _ {factor : ℕ} {p q : Point} {end : ℕ} {before : List ℕ} (h : Segme
       let s : p.share + (q.share - p.share) ≤ 1000 = omega (arith, h.no_less, h.share_most) in
       omega (arith, mul-add factor p.share (q.share - p.share), mul-le-mul h.factor_most s)
 
-  added-at : (d : ℕ) → p.deviation ≤ d → d < q.deviation → wholes (first (factor * p.share)) (step factor p q) (d - p.deviation) ≡ response_to factor (between p q d)
+  added-at : (d : ℕ) → p.deviation ≤ d → d < q.deviation → wholes (first-parts (factor * p.share)) (step factor p q) (d - p.deviation) ≡ response_to factor (between p q d)
   added-at d l m =
       let w : 0 < width p q = omega (arith, h.farther) in
       let narrow : width p q - 1 ≤ 3000 = omega (arith, h.deviation_most) in
@@ -42,12 +42,12 @@ module _ {factor : ℕ} {p q : Point} {end : ℕ} {before : List ℕ} (h : Segme
         mul_assoc factor (q.share - p.share) (d - p.deviation),
       ))
 
-  added-le : (d : ℕ) → p.deviation ≤ d → d < q.deviation → wholes (first (factor * p.share)) (step factor p q) (d - p.deviation) ≤ 1000 * factor
+  added-le : (d : ℕ) → p.deviation ≤ d → d < q.deviation → wholes (first-parts (factor * p.share)) (step factor p q) (d - p.deviation) ≤ 1000 * factor
   added-le d l m =
       rw (added-at d l m)
       (between_le factor p q d (record { farther = h.farther; no_less = h.no_less }) (record { deviation-le = h.deviation_most; share-le = h.share_most }) l m)
 
-  pub fill-fits : FillFits (first (factor * p.share)) (step factor p q) p.deviation (min end q.deviation) before
+  pub fill-fits : FillFits (first-parts (factor * p.share)) (step factor p q) p.deviation (min end q.deviation) before
   fill-fits =
       let x : min end q.deviation - p.deviation ≤ width p q = omega arith in
       record {
@@ -57,6 +57,6 @@ module _ {factor : ℕ} {p q : Point} {end : ℕ} {before : List ℕ} (h : Segme
       }
 
   pub filled : {after : List ℕ} →
-      Added p.deviation (min end q.deviation) (λ (d : ℕ). wholes (first (factor * p.share)) (step factor p q) (d - p.deviation)) before after →
+      Added p.deviation (min end q.deviation) (λ (d : ℕ). wholes (first-parts (factor * p.share)) (step factor p q) (d - p.deviation)) before after →
       Added p.deviation (min end q.deviation) (λ (d : ℕ). response_to factor (between p q d)) before after
   filled a = same-added a _ (λ d l m. added-at d l (omega arith))

@@ -1,20 +1,19 @@
 -- The stock containment curve: its share, and which curves are it. Assumes nothing.
 use mathlib.Core.Path.{◌≡◌, refl, sym, ap}
-use mathlib.Core.Bool.{true, ◌&&◌, and_assoc, and-false, and-true, false≢true}
+use mathlib.Core.Bool.{Bool, true, ◌&&◌, false≢true}
 use mathlib.Core.List.{List, [], ◌∷◌}
-use Prim.Native.Nat.{ℕ, zero, suc, ◌*◌, ◌≤◌, ◌<◌}
+use Prim.Native.Nat.{ℕ, ◌*◌, ◌≤◌, ◌<◌}
 use native.Mathlib.Omega.{arith}
-use borrow.Author.Tests.{le-ltb, eqb-true, ne_eqb}
+use borrow.Author.Tests.{le-ltb, eqb-true}
 use lib.Dec.{eqb, ltb}
-use lib.ListN.{length, get_or, take}
+use lib.Pointwise.{pointwise}
 use Rattle.common.specs.Fraction.{Fraction, whole}
 use Rattle.common.specs.Lists.{chain}
 use Rattle.common.proofs.Tests.{both_true, by-test}
-use Rattle.energy.specs.Curve.{point, blank, points_of, containment_curve, curve_rule, between, share_from, share_at, response_to, response}
+use Rattle.energy.specs.Curve.{point, points_of, containment_curve, curve_rule, between, share_from, share_at, response_to, response}
 use Rattle.energy.specs.Containment.{containment_share, same_point, same_points, is_containment}
 use Rattle.energy.specs.declared.curve.Point.{Point}
 use Rattle.energy.specs.declared.curve.Curve.{Curve}
-use Rattle.energy.proofs.Points.{at}
 use Rattle.energy.proofs.Shares.{share-positive}
 
 -- ---- its rule and its share
@@ -63,25 +62,13 @@ points-same (p ∷ ps) (q ∷ qs) e =
     let b = both_true (same_point p q) (same_points ps qs) e in
     λ i. point-same p q b.0 i ∷ points-same ps qs b.1 i
 
--- the count and three points decide
-three-points : (n : ℕ) (ps : List Point) → 4 ≤ length ps → (a b c : Point) →
-    eqb n 3 && same_point (get_or ps 0 blank) a && same_point (get_or ps 1 blank) b && same_point (get_or ps 2 blank) c ≡ same_points (take n ps) (a ∷ b ∷ c ∷ [])
+-- the code compares two lists place by place
+pub by-points : (ps qs : List Point) → pointwise same_point ps qs ≡ same_points ps qs
 unfolding same_points
-three-points n [] h a b c = absurd (omega arith)
-three-points n (p ∷ []) h a b c = absurd (omega arith)
-three-points n (p ∷ q ∷ []) h a b c = absurd (omega arith)
-three-points n (p ∷ q ∷ r ∷ []) h a b c = absurd (omega arith)
-three-points zero (p ∷ q ∷ r ∷ s ∷ ps) h a b c = refl
-three-points (suc zero) (p ∷ q ∷ r ∷ s ∷ ps) h a b c = rw (and-false (same_point p a))
-three-points (suc (suc zero)) (p ∷ q ∷ r ∷ s ∷ ps) h a b c = rw (and-false (same_point q b), and-false (same_point p a))
-three-points (suc (suc (suc zero))) (p ∷ q ∷ r ∷ s ∷ ps) h a b c =
-    rw (and-true (same_point r c)) (and_assoc (same_point p a) (same_point q b) (same_point r c))
-three-points (suc (suc (suc (suc n)))) (p ∷ q ∷ r ∷ s ∷ ps) h a b c =
-    rw (ne_eqb (suc (suc (suc (suc n)))) 3 (λ e. omega arith), and-false (same_point r c), and-false (same_point q b), and-false (same_point p a))
-
-pub by-points : (c : Curve) → length c.points ≡ 5 → {stock : Curve} → stock ≡ containment_curve →
-    eqb c.count 3 && same_point (at c 0) (at stock 0) && same_point (at c 1) (at stock 1) && same_point (at c 2) (at stock 2) ≡ is_containment c
-by-points c five is = rw is (three-points c.count c.points (omega arith) (point 15 0) (point 200 50) (point 500 1000))
+by-points [] [] = refl
+by-points [] (q ∷ qs) = refl
+by-points (p ∷ ps) [] = refl
+by-points (p ∷ ps) (q ∷ qs) = ap (λ (b : Bool). same_point p q && b) (by-points ps qs)
 
 -- the same points, and so the same responses
 pub stock-response : (c : Curve) → is_containment c ≡ true → (mw d : ℕ) → response mw containment_curve d ≡ response mw c d

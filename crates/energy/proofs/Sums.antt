@@ -10,15 +10,12 @@ use lib.ListN.{length, drop, replicate}
 use Rattle.common.specs.Answer.{refused, cause, checked}
 use Rattle.common.specs.Lists.{sum}
 use Rattle.common.proofs.Tests.{not-leb, not-both}
-use Rattle.terms.specs.Terms.{Q}
-use Rattle.terms.specs.declared.Quantities.{Quantities}
-use Rattle.energy.specs.Curve.{curves_rule}
+use Rattle.terms.specs.Terms.{Q, Quantities}
+use Rattle.common.specs.declared.Directions.{Directions}
+use Rattle.energy.specs.Curve.{curves_rule, Curves}
 use Rattle.energy.specs.Period.{good_readings, low_deviation, high_deviation, responses, response_sum, bounds_of, BeforeReadings, from_readings}
 use Rattle.energy.specs.Rate.{is_period_count}
 use Rattle.energy.specs.Table.{largest, largest_deviation, largest_deviations, Added, DirectionFits, table_sum, table_sums, Covered, response_sums, WithinRange, HasResponses, RunningSums}
-use Rattle.energy.specs.declared.curve.Curves.{Curves}
-use Rattle.energy.specs.declared.table.Deviations.{Deviations}
-use Rattle.energy.specs.declared.table.Sums.{Sums}
 use Rattle.energy.proofs.Largest.{drop_le, every-within}
 use Rattle.energy.proofs.Responses.{response-sum-le}
 use Rattle.energy.proofs.Tables.{zeros-at}
@@ -55,12 +52,12 @@ zeros-fit q cs most few rules near =
       room = λ d. omega (arith, zeros-at 3001 d);
     }
 
-module _ {most : Deviations} {rs : List ℕ} (h : WithinRange most rs) where
+module _ {most : Directions ℕ} {rs : List ℕ} (h : WithinRange most rs) where
   low-le : largest_deviation low_deviation rs ≤ most.low
-  low-le = omega (arith, ap (λ (d : Deviations). d.low) h.same)
+  low-le = omega (arith, ap (λ (d : Directions ℕ). d.low) h.same)
 
   high_le : largest_deviation high_deviation rs ≤ most.high
-  high_le = omega (arith, ap (λ (d : Deviations). d.high) h.same)
+  high_le = omega (arith, ap (λ (d : Directions ℕ). d.high) h.same)
 
   module _ (lows highs : List ℕ) where
     pub covered : length lows ≡ 3001 → length highs ≡ 3001 → Covered lows highs rs
@@ -82,7 +79,7 @@ module _ {most : Deviations} {rs : List ℕ} (h : WithinRange most rs) where
 
 module _ (low high : Quantities) (cs : Curves) (rs : List ℕ) where
   -- what both directions of at most 1,000 MW respond
-  pub sums-most : BeforeReadings low high cs → (sums : Sums) → sums ≡ response_sums low high cs rs →
+  pub sums-most : BeforeReadings low high cs → (sums : Directions ℕ) → sums ≡ response_sums low high cs rs →
       (sums.low ≤ 1000000000 * length rs) × (sums.high ≤ 1000000000 * length rs)
   sums-most b sums same =
       let low_most : 1000000 * Q low ≤ 1000000000 = omega (arith, b.low_most) in
@@ -97,7 +94,7 @@ module _ (low high : Quantities) (cs : Curves) (rs : List ℕ) where
   wrong-count h = rw h
 
   -- the cause as the code tests it
-  pub by_tests : is_period_count (length rs) ≡ true → (most : Deviations) → most ≡ largest_deviations rs →
+  pub by_tests : is_period_count (length rs) ≡ true → (most : Directions ℕ) → most ≡ largest_deviations rs →
       from_readings low high cs rs ≡ checked (cause 6 (ltb 3000 most.low || ltb 3000 most.high) ∷ []) (bounds_of low high cs rs)
   unfolding good_readings
   by_tests h most same =

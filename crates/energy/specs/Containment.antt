@@ -1,14 +1,14 @@
 -- Paper 02, No. 4: a table for the containment curve, and responses and bounds by it, in watts by No. 5. Assumes nothing.
-use Rattle.std.specs.Prelude.{◌≡◌, Bool, true, false, cond, ◌&&◌, List, [], ◌∷◌, ℕ, ◌*◌, ◌≤◌, min, eqb, length, get_or}
+use Rattle.std.specs.Prelude.{◌≡◌, Bool, true, false, cond, ◌&&◌, List, [], ◌∷◌, Option, Some, None, ℕ, ◌*◌, ◌≤◌, min, eqb, length, get_or}
 use Rattle.common.specs.Fraction.{Fraction, rounded_up}
 use Rattle.common.specs.Lists.{every_from}
-use Rattle.terms.specs.declared.Quantities.{Quantities}
-use Rattle.energy.specs.Curve.{points_of, containment_curve, share_at, response}
-use Rattle.energy.specs.Period.{low_deviation, high_deviation, response_sum_by, Bounds, bounds_of}
+use Rattle.common.specs.declared.Directions.{Directions}
+use Rattle.terms.specs.Terms.{Quantities}
+use Rattle.energy.specs.Curve.{points_of, containment_curve, share_at, response, Curves}
+use Rattle.energy.specs.Period.{low_deviation, high_deviation, response_sum_by, bounds_of}
 use Rattle.energy.specs.Rate.{divisor}
 use Rattle.energy.specs.declared.curve.Point.{Point}
 use Rattle.energy.specs.declared.curve.Curve.{Curve}
-use Rattle.energy.specs.declared.curve.Curves.{Curves}
 
 -- ---- the table's rule
 
@@ -56,9 +56,16 @@ service_by_table table mw c d = cond (is_containment c) (response_by_table table
 abbrev pub bound_by_table : List ℕ → (ℕ → ℕ) → Quantities → Curves → List ℕ → ℕ
 bound_by_table table deviation q cs rs = rounded_up (response_sum_by (service_by_table table) deviation q cs rs) (divisor (length rs))
 
-abbrev pub bounds_by_table : List ℕ → Quantities → Quantities → Curves → List ℕ → Bounds
+abbrev pub bounds_by_table : List ℕ → Quantities → Quantities → Curves → List ℕ → Directions ℕ
 bounds_by_table table low high cs rs =
     record { low = bound_by_table table low_deviation low cs rs; high = bound_by_table table high_deviation high cs rs }
+
+-- ---- a table in place of the steps
+
+-- where a table is offered for a curve, the responses by it are those of the curve, for every quantity and deviation
+abbrev pub Offered : Curve → Option (List ℕ) → Type 0
+Offered c None = Unit
+Offered c (Some table) = (mw d : ℕ) → response_by_table table mw d ≡ response mw c d
 
 -- ---- what holds of a table that keeps the rule
 

@@ -2,11 +2,10 @@
 -- 01's rule stands here for this comparison alone. Assumes nothing.
 use Rattle.std.specs.Prelude.{List, ℕ, ◌+◌, ◌*◌, ◌≤◌, length}
 use Rattle.common.specs.Fraction.{rounded_up}
-use Rattle.terms.specs.declared.Quantities.{Quantities}
-use Rattle.energy.specs.Curve.{points_of, share_at, response_to}
+use Rattle.terms.specs.Terms.{Quantities}
+use Rattle.energy.specs.Curve.{points_of, share_at, response_to, Curves}
 use Rattle.energy.specs.Period.{response_sum_by, bound}
 use Rattle.energy.specs.declared.curve.Curve.{Curve}
-use Rattle.energy.specs.declared.curve.Curves.{Curves}
 
 -- 01: a service's response is its MW times the share, in kW, rounded up after the one division
 abbrev pub kilowatts : ℕ → Curve → ℕ → ℕ

@@ -2,16 +2,13 @@
 -- No. 3: the sums from the last reading back. Assumes nothing.
 use Rattle.std.specs.Prelude.{◌≡◌, true, List, [], ◌∷◌, map, ℕ, ◌+◌, ◌-◌, ◌*◌, ◌/◌, ◌^◌, ◌≤◌, ◌<◌, max, length, get_or, drop}
 use Rattle.common.specs.Lists.{sum}
-use Rattle.terms.specs.Terms.{Q}
-use Rattle.terms.specs.declared.Quantities.{Quantities}
-use Rattle.energy.specs.Containment.{table_rule}
-use Rattle.energy.specs.Curve.{curve_rule, curves_rule}
+use Rattle.terms.specs.Terms.{Q, Quantities}
+use Rattle.common.specs.declared.Directions.{Directions}
+use Rattle.energy.specs.Containment.{response_by_table}
+use Rattle.energy.specs.Curve.{curve_rule, curves_rule, Curves}
 use Rattle.energy.specs.Period.{low_deviation, high_deviation, responses, response_sum}
 use Rattle.energy.specs.declared.curve.Point.{Point}
 use Rattle.energy.specs.declared.curve.Curve.{Curve}
-use Rattle.energy.specs.declared.curve.Curves.{Curves}
-use Rattle.energy.specs.declared.table.Deviations.{Deviations}
-use Rattle.energy.specs.declared.table.Sums.{Sums}
 
 -- ---- the largest deviations
 
@@ -24,7 +21,7 @@ largest (n ∷ ns) = max n (largest ns)
 abbrev pub largest_deviation : (ℕ → ℕ) → List ℕ → ℕ
 largest_deviation deviation rs = largest (map deviation rs)
 
-abbrev pub largest_deviations : List ℕ → Deviations
+abbrev pub largest_deviations : List ℕ → Directions ℕ
 largest_deviations rs = record { low = largest_deviation low_deviation rs; high = largest_deviation high_deviation rs }
 
 -- ---- a table of responses: entry d is that to a deviation of d
@@ -59,21 +56,18 @@ pub record SegmentFits (factor : ℕ) (p q : Point) (end : ℕ) (table : List �
   pub there : end ≤ length table
   pub room : (d : ℕ) → p.deviation ≤ d → get_or table d 0 + 1000 * factor < 2 ^ 32
 
--- `fill_by_steps` and `fill_by_table`, and for 1,000 times its MW `fill_service`: a curve that keeps its rule, and room for 1,000 per
--- mille of such a factor
+-- `fill_by_steps`, and for 1,000 times its MW `fill_service`: a curve that keeps its rule, and room for 1,000 per mille of such a factor
 pub record ServiceFits (factor : ℕ) (c : Curve) (end : ℕ) (table : List ℕ) : Type 0 where
   pub factor_most : factor ≤ 1000000
   pub rule : curve_rule c ≡ true
   pub there : end ≤ length table
   pub room : Room (1000 * factor) table
 
--- `fill_by_entries`: a table of the stock containment curve that has the entries, and room for the same
-pub record EntriesFit (factor : ℕ) (entries : List ℕ) (end : ℕ) (table : List ℕ) : Type 0 where
-  pub factor_most : factor ≤ 1000000
-  pub rule : table_rule entries ≡ true
-  pub has : end ≤ 501
+-- `fill_by_table` and `fill_by_entries`: at most 1,000 MW, and room for the responses by a table
+pub record TableFits (mw : ℕ) (entries : List ℕ) (end : ℕ) (table : List ℕ) : Type 0 where
+  pub mw_most : mw ≤ 1000
   pub there : end ≤ length table
-  pub room : Room (1000 * factor) table
+  pub room : (d : ℕ) → get_or table d 0 + response_by_table entries mw d < 2 ^ 32
 
 -- `fill_direction`: at most 1,000 MW, curves that keep their rule, and room for all of it
 pub record DirectionFits (q : Quantities) (cs : Curves) (most : ℕ) (table : List ℕ) : Type 0 where
@@ -88,7 +82,7 @@ pub record DirectionFits (q : Quantities) (cs : Curves) (most : ℕ) (table : Li
 abbrev pub table_sum : (ℕ → ℕ) → List ℕ → List ℕ → ℕ
 table_sum deviation table rs = sum (map (λ (r : ℕ). get_or table (deviation r) 0) rs)
 
-abbrev pub table_sums : List ℕ → List ℕ → List ℕ → Sums
+abbrev pub table_sums : List ℕ → List ℕ → List ℕ → Directions ℕ
 table_sums lows highs rs = record { low = table_sum low_deviation lows rs; high = table_sum high_deviation highs rs }
 
 -- `sum_table`: every deviation is in its table, and the sums stay a u64
@@ -97,11 +91,11 @@ pub record Covered (lows highs rs : List ℕ) : Type 0 where
   pub high_there : largest_deviation high_deviation rs < length highs
   pub count_most : length rs ≤ 2 ^ 32
 
-abbrev pub response_sums : Quantities → Quantities → Curves → List ℕ → Sums
+abbrev pub response_sums : Quantities → Quantities → Curves → List ℕ → Directions ℕ
 response_sums low high cs rs = record { low = response_sum low_deviation low cs rs; high = response_sum high_deviation high cs rs }
 
 -- `sum_responses`: the largest deviations are those of the readings, and neither is above 3,000
-pub record WithinRange (most : Deviations) (rs : List ℕ) : Type 0 where
+pub record WithinRange (most : Directions ℕ) (rs : List ℕ) : Type 0 where
   pub same : most ≡ largest_deviations rs
   pub low_most : most.low ≤ 3000
   pub high_most : most.high ≤ 3000
@@ -111,7 +105,7 @@ pub record WithinRange (most : Deviations) (rs : List ℕ) : Type 0 where
 
 -- the sums from a place on, counted from 0: those of the readings from the one at that place to the last, and no others. By its
 -- tables the loop of `sum_table` has them at each step, from the present reading's place on.
-abbrev pub sums_from : ℕ → (List ℕ → Sums) → List ℕ → Sums
+abbrev pub sums_from : ℕ → (List ℕ → Directions ℕ) → List ℕ → Directions ℕ
 sums_from place sums rs = sums (drop place rs)
 
 -- a table has a direction's response to each deviation up to `most`

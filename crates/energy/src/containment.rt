@@ -2,10 +2,10 @@
 ghost use Rattle.std.specs.Prelude.{◌≡◌, true, ◌*◌};
 ghost use Rattle.common.specs.Fraction.{rounded_up};
 ghost use Rattle.energy.specs.Curve.{containment_curve, response};
-ghost use Rattle.energy.specs.Containment.{table_rule, response_by_table, same_point, is_containment};
+ghost use Rattle.energy.specs.Containment.{table_rule, response_by_table, is_containment};
 
 use crate::containment_table::stored_table;
-use crate::curve::{Curve, Point, containment_curve};
+use crate::curve::{Curve, containment_curve};
 use crate::table::fill_by_steps;
 
 // A factor times an entry, divided by 11,100, rounded up.
@@ -29,7 +29,7 @@ fn watts_by_entry(mw: u32, entry: u32) -> u64
 pub fn response_from(table: &[u32; 501], mw: u32, deviation: u16) -> u64
     ensures { result ≡ response_by_table table.now mw deviation }
 {
-    let place = common::smaller(deviation as u64, 500) as usize;
+    let place = (deviation as u64).min(500) as usize;
     watts_by_entry(mw, table[place])
 }
 
@@ -41,21 +41,11 @@ pub fn response_by_table(mw: u32, deviation: u16) -> u64
     response_from(&table, mw, deviation)
 }
 
-fn same_point(p: Point, q: Point) -> bool
-    ensures { result ≡ same_point p q }
-{
-    (p.deviation == q.deviation) & (p.share == q.share)
-}
-
 // Whether a curve is the stock containment curve.
 pub(crate) fn is_containment(curve: Curve) -> bool
     ensures { result ≡ is_containment curve }
 {
-    let stock = containment_curve();
-    (curve.count == 3)
-        & same_point(curve.points[0], stock.points[0])
-        & same_point(curve.points[1], stock.points[1])
-        & same_point(curve.points[2], stock.points[2])
+    curve.points() == containment_curve().points()
 }
 
 // The table worked out by interpolation: 11,100 times the share at each deviation from 0 to 500 mHz.

@@ -1,11 +1,28 @@
 // Curves: the share of a service's quantity that a deviation calls for.
 ghost use Rattle.std.specs.Prelude.{◌≡◌};
-ghost use Rattle.energy.specs.Curve.{in_range, rises, curve_rule, curves_rule, regulation_curve, containment_curve};
+ghost use Rattle.energy.specs.Curve.{points_of, in_range, rises, curve_rule, curves_rule, regulation_curve, containment_curve};
 
-#[derive(Clone, Copy)]
+use common::{LinePoint, is_line};
+use terms::Services;
+
+#[derive(Clone, Copy, Debug, PartialEq, Eq)]
 pub struct Point {
     pub deviation: u16,
     pub share: u16,
+}
+
+impl LinePoint for Point {
+    ghost in_range = { in_range };
+
+    ghost rises = { rises };
+
+    fn is_in_range(self) -> bool {
+        (self.deviation <= 3000) & (self.share <= 1000)
+    }
+
+    fn rises_to(self, next: Point) -> bool {
+        (self.deviation < next.deviation) & (self.share <= next.share)
+    }
 }
 
 // Points past the count are ignored.
@@ -15,13 +32,17 @@ pub struct Curve {
     pub points: [Point; 5],
 }
 
-// One curve for each service, for both directions.
-#[derive(Clone, Copy)]
-pub struct Curves {
-    pub dc: Curve,
-    pub dm: Curve,
-    pub dr: Curve,
+impl Curve {
+    // The points that are counted.
+    pub fn points(&self) -> &[Point]
+        ensures { result.now ≡ points_of self.now }
+    {
+        &self.points[..(self.count as usize).min(5)]
+    }
 }
+
+// One curve for each service, for both directions.
+pub type Curves = Services<Curve>;
 
 // The stock curves; they are not official bounds.
 pub const REGULATION: Curve = Curve {
@@ -88,40 +109,16 @@ pub fn containment_curve() -> Curve
     CONTAINMENT
 }
 
-fn in_range(p: Point) -> bool
-    ensures { result ≡ in_range p }
-{
-    (p.deviation <= 3000) & (p.share <= 1000)
-}
-
-fn rises(p: Point, q: Point) -> bool
-    ensures { result ≡ rises p q }
-{
-    (p.deviation < q.deviation) & (p.share <= q.share)
-}
-
 // Whether a curve keeps its rule, for any bits.
 pub fn curve_holds(curve: Curve) -> bool
     ensures { result ≡ curve_rule curve }
 {
-    let count = curve.count as usize;
+    let count = curve.count;
     if count < 2 || 5 < count {
         return false;
     }
-    let mut last = curve.points[0];
-    if last.share != 0 {
-        return false;
-    }
-    let mut i: usize = 1;
-    while i < count {
-        let next = curve.points[i];
-        if !(in_range(last) & rises(last, next)) {
-            return false;
-        }
-        last = next;
-        i += 1;
-    }
-    in_range(last)
+    let points = curve.points();
+    (points[0].share == 0) & is_line(points[0], &points[1..])
 }
 
 pub fn curves_hold(curves: Curves) -> bool

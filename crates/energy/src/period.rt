@@ -1,25 +1,69 @@
 // Period energy: the bounds of both directions, from a period's readings.
 ghost use Rattle.std.specs.Prelude.{◌≡◌, ◌*◌, ◌≤◌, true};
-ghost use Rattle.common.specs.Answer.{number_of};
 ghost use Rattle.common.specs.Fraction.{rounded_up};
-ghost use Rattle.energy.specs.Period.{BeforeReadings, from_readings, period_energy, answer_of};
+ghost use Rattle.energy.specs.Containment.{Offered};
+ghost use Rattle.energy.specs.Period.{BeforeReadings, from_readings, period_energy, refusal_number, answer_of};
 ghost use Rattle.energy.specs.Rate.{is_period_count, divisor};
 
-use crate::curve::{Curves, curves_hold};
+use crate::containment::is_containment;
+use crate::containment_table::stored_table;
+use crate::curve::{Curve, Curves, curves_hold};
 use crate::rate::is_period_count;
 use crate::table::{largest_deviations, sum_responses};
+use common::{Directions, Refusal};
 use terms::Quantities;
 
-#[derive(Clone, Copy)]
-pub enum PeriodEnergy {
-    // Both directions, in kWh.
-    Bounds { low: u32, high: u32 },
+#[derive(Clone, Copy, Debug, PartialEq, Eq)]
+pub enum EnergyRefusal {
     // A direction is above 1,000 MW.
     Quantity,
     // A curve breaks its rule.
     Curve,
     // The count is that of neither rate, or a reading is bad.
     Readings,
+}
+
+impl Refusal for EnergyRefusal {
+    ghost refusal = { refusal_number };
+
+    fn number(self) -> u32 {
+        match self {
+            EnergyRefusal::Quantity => 1,
+            EnergyRefusal::Curve => 5,
+            EnergyRefusal::Readings => 6,
+        }
+    }
+}
+
+// How responses are worked out. It decides how long they take, and nothing else.
+pub trait Way {
+    // The table that may serve a curve, by which the responses are those of the curve. Where there is none, steps from point to point serve.
+    fn table_for(curve: Curve) -> Option<[u32; 501]>
+        ensures { Offered curve result };
+}
+
+// By steps for every curve.
+#[derive(Clone, Copy)]
+pub struct BySteps;
+
+// By table for the stock containment curve (paper 02, No. 4), which takes longer.
+#[derive(Clone, Copy)]
+pub struct ByTable;
+
+impl Way for BySteps {
+    fn table_for(_curve: Curve) -> Option<[u32; 501]> {
+        None
+    }
+}
+
+impl Way for ByTable {
+    fn table_for(curve: Curve) -> Option<[u32; 501]> {
+        if is_containment(curve) {
+            Some(stored_table())
+        } else {
+            None
+        }
+    }
 }
 
 // The energy of a period, from the sum of a direction's responses, at most 1,000,000,000 W to a reading, and the count of readings.
@@ -32,85 +76,45 @@ fn period_kwh(sum: u64, count: usize) -> u32
 }
 
 // Refusal 6 or both bounds, where quantities and curves are good.
-fn from_readings(
-    low: Quantities,
-    high: Quantities,
+fn from_readings<W: Way>(
+    quantities: Directions<Quantities>,
     curves: Curves,
     readings: &[u16],
-    by_table: bool,
-) -> PeriodEnergy
-    requires { BeforeReadings low high curves }
-    ensures { answer_of result ≡ from_readings low high curves readings.now }
+) -> Result<Directions<u32>, EnergyRefusal>
+    requires { BeforeReadings quantities.low quantities.high curves }
+    ensures { answer_of result ≡ from_readings quantities.low quantities.high curves readings.now }
 {
     let count = readings.len();
     if !is_period_count(count) {
-        return PeriodEnergy::Readings;
+        return Err(EnergyRefusal::Readings);
     }
     // a reading is 47,000 to 53,000: within 3,000 of 50,000
     let most = largest_deviations(readings);
     if (3000 < most.low) | (3000 < most.high) {
-        return PeriodEnergy::Readings;
+        return Err(EnergyRefusal::Readings);
     }
-    let sums = sum_responses(low, high, curves, most, readings, by_table);
-    PeriodEnergy::Bounds {
+    let sums = sum_responses::<W>(quantities, curves, most, readings);
+    Ok(Directions {
         low: period_kwh(sums.low, count),
         high: period_kwh(sums.high, count),
-    }
-}
-
-// Both directions' bounds of a period. Whether tables may serve decides how they are worked out, and nothing else.
-fn energy_of(
-    low: Quantities,
-    high: Quantities,
-    curves: Curves,
-    readings: &[u16],
-    by_table: bool,
-) -> PeriodEnergy
-    ensures { answer_of result ≡ period_energy low high curves readings.now }
-{
-    let quantity = terms::above_1000_mw(low) | terms::above_1000_mw(high);
-    let curve = !curves_hold(curves);
-    if quantity {
-        return PeriodEnergy::Quantity;
-    }
-    if curve {
-        return PeriodEnergy::Curve;
-    }
-    from_readings(low, high, curves, readings, by_table)
+    })
 }
 
 // Both directions' bounds of a period.
-pub fn period_energy(
-    low: Quantities,
-    high: Quantities,
+pub fn period_energy<W: Way>(
+    quantities: Directions<Quantities>,
     curves: Curves,
     readings: &[u16],
-) -> PeriodEnergy
-    ensures { answer_of result ≡ period_energy low high curves readings.now }
+) -> Result<Directions<u32>, EnergyRefusal>
+    ensures { answer_of result ≡ period_energy quantities.low quantities.high curves readings.now }
 {
-    energy_of(low, high, curves, readings, false)
-}
-
-// The same by table for each service whose curve is the stock containment curve (paper 02, No. 4), which takes longer.
-pub fn period_energy_by_table(
-    low: Quantities,
-    high: Quantities,
-    curves: Curves,
-    readings: &[u16],
-) -> PeriodEnergy
-    ensures { answer_of result ≡ period_energy low high curves readings.now }
-{
-    energy_of(low, high, curves, readings, true)
-}
-
-// The number of an answer, 0 for bounds.
-pub fn number(answer: PeriodEnergy) -> u32
-    ensures { result ≡ number_of (answer_of answer) }
-{
-    match answer {
-        PeriodEnergy::Bounds { low: _, high: _ } => 0,
-        PeriodEnergy::Quantity => 1,
-        PeriodEnergy::Curve => 5,
-        PeriodEnergy::Readings => 6,
+    let quantity = terms::above_1000_mw(quantities.low) | terms::above_1000_mw(quantities.high);
+    let curve = !curves_hold(curves);
+    if quantity {
+        return Err(EnergyRefusal::Quantity);
     }
+    if curve {
+        return Err(EnergyRefusal::Curve);
+    }
+    from_readings::<W>(quantities, curves, readings)
 }

@@ -11,17 +11,17 @@ use Rattle.energy.proofs.Sums.{sums-most, wrong-count, by_tests}
 use Rattle.energy.proofs.period.from_readings.Goals as goal
 
 pub returns-then-not-is_period_count : goal.returns-then-not-is_period_count
-returns-then-not-is_period_count c =
-    wrong-count c.args.low c.args.high c.args.curves c.args.readings.now (sym c.is_period_count.ensures ∙ c.if-not-is_period_count.true)
+returns-then-not-is_period_count g c =
+    wrong-count c.args.quantities.low c.args.quantities.high c.args.curves c.args.readings.now (sym c.is_period_count.ensures ∙ c.if-not-is_period_count.true)
 
 pub returns-then-most : goal.returns-then-most
-returns-then-most c =
+returns-then-most g c =
     let most = c.largest_deviations-most.result in
-    let by = by_tests c.args.low c.args.high c.args.curves c.args.readings.now (sym c.is_period_count.ensures ∙ c.if-not-is_period_count.false) most c.largest_deviations-most.ensures in
+    let by = by_tests c.args.quantities.low c.args.quantities.high c.args.curves c.args.readings.now (sym c.is_period_count.ensures ∙ c.if-not-is_period_count.false) most c.largest_deviations-most.ensures in
     rw (by, c.if-most.true)
 
 pub sum_responses-sums-requires : goal.sum_responses-sums-requires
-sum_responses-sums-requires c =
+sum_responses-sums-requires g c =
     let most = c.largest_deviations-most.result in
     let n = neither (ltb 3000 most.low) (ltb 3000 most.high) c.if-most.false in (
       c.requires,
@@ -34,20 +34,20 @@ sum_responses-sums-requires c =
     )
 
 pub period_kwh-requires : goal.period_kwh-requires
-period_kwh-requires c = (
+period_kwh-requires g c = (
   sym c.is_period_count.ensures ∙ c.if-not-is_period_count.false,
-  (sums-most c.args.low c.args.high c.args.curves c.args.readings.now c.requires c.sum_responses-sums.result c.sum_responses-sums.ensures).0,
+  (sums-most c.args.quantities.low c.args.quantities.high c.args.curves c.args.readings.now c.requires c.sum_responses-sums.result c.sum_responses-sums.ensures).0,
 )
 
 pub period_kwh-requires-2 : goal.period_kwh-requires-2
-period_kwh-requires-2 c = (
+period_kwh-requires-2 g c = (
   sym c.is_period_count.ensures ∙ c.if-not-is_period_count.false,
-  (sums-most c.args.low c.args.high c.args.curves c.args.readings.now c.requires c.sum_responses-sums.result c.sum_responses-sums.ensures).1,
+  (sums-most c.args.quantities.low c.args.quantities.high c.args.curves c.args.readings.now c.requires c.sum_responses-sums.result c.sum_responses-sums.ensures).1,
 )
 
 pub returns : goal.returns
 unfolding bound
-returns c =
+returns g c =
     let most = c.largest_deviations-most.result in
-    let by = by_tests c.args.low c.args.high c.args.curves c.args.readings.now (sym c.is_period_count.ensures ∙ c.if-not-is_period_count.false) most c.largest_deviations-most.ensures in
+    let by = by_tests c.args.quantities.low c.args.quantities.high c.args.curves c.args.readings.now (sym c.is_period_count.ensures ∙ c.if-not-is_period_count.false) most c.largest_deviations-most.ensures in
     rw (by, c.if-most.false, c.period_kwh.ensures, c.period_kwh-2.ensures, c.sum_responses-sums.ensures)

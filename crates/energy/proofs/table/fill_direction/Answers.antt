@@ -9,7 +9,7 @@ use Rattle.energy.proofs.Tables.{room-left}
 use Rattle.energy.proofs.table.fill_direction.Goals as goal
 
 pub fill_service-requires : goal.fill_service-requires
-fill_service-requires c =
+fill_service-requires g c =
     record {
       factor_most = omega (arith, c.requires.quantity_most);
       rule = (rules c.args.curves c.requires.rules).dc;
@@ -18,7 +18,7 @@ fill_service-requires c =
     }
 
 pub fill_service-requires-2 : goal.fill_service-requires-2
-fill_service-requires-2 c =
+fill_service-requires-2 g c =
     let q = c.args.q in
     let by = rules c.args.curves c.requires.rules in
     let room : Room (1000000 * q.dm + 1000000 * q.dr) c.fill_service.new.table =
@@ -32,7 +32,7 @@ fill_service-requires-2 c =
     }
 
 pub fill_service-requires-3 : goal.fill_service-requires-3
-fill_service-requires-3 c =
+fill_service-requires-3 g c =
     let q = c.args.q in
     let by = rules c.args.curves c.requires.rules in
     let room : Room (1000000 * q.dm + 1000000 * q.dr) c.fill_service.new.table =

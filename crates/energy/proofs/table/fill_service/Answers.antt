@@ -1,21 +1,25 @@
 -- `energy::table::fill_service` meets its contract, by table or by steps. Assumes nothing.
-use mathlib.Core.Path.{sym, ◌∙◌}
-use Rattle.common.proofs.Tests.{both_true}
+use native.Mathlib.Omega.{arith}
 use Rattle.energy.specs.Curve.{response}
-use Rattle.energy.proofs.StockCurve.{rule, stock-response}
+use Rattle.energy.proofs.Services.{none}
+use Rattle.energy.proofs.Shares.{response-le}
 use Rattle.energy.proofs.Tables.{same-added}
 use Rattle.energy.proofs.table.fill_service.Goals as goal
 
+pub returns-then-mw-eq0 : goal.returns-then-mw-eq0
+returns-then-mw-eq0 g c = none c.args.curve c.args.end c.if-mw-eq0.true
+
 pub fill_by_table-requires : goal.fill_by_table-requires
-fill_by_table-requires c =
-    record { factor_most = c.requires.factor_most; rule = rule; there = c.requires.there; room = c.requires.room }
+fill_by_table-requires g c =
+    record {
+      mw_most = omega (arith, c.requires.factor_most);
+      there = c.requires.there;
+      room = λ d. omega (arith, c.in-Some.ensures c.args.mw d, response-le c.args.mw c.args.curve c.requires.rule d, c.requires.room d);
+    }
 
-pub returns-then-by_table-is_containment : goal.returns-then-by_table-is_containment
-unfolding response
-returns-then-by_table-is_containment c =
-    let stock = sym c.is_containment.ensures ∙ (both_true c.args.by_table c.is_containment.result c.if-by_table-is_containment.true).1 in
-    same-added c.fill_by_table.ensures _ (λ d l h. stock-response c.args.curve stock c.args.mw d)
+pub returns-in-Some : goal.returns-in-Some
+returns-in-Some g c = same-added c.fill_by_table.ensures _ (λ d l h. c.in-Some.ensures c.args.mw d)
 
-pub returns-else-by_table-is_containment : goal.returns-else-by_table-is_containment
+pub returns-in-None : goal.returns-in-None
 unfolding response
-returns-else-by_table-is_containment c = c.fill_by_steps.ensures
+returns-in-None g c = c.fill_by_steps.ensures

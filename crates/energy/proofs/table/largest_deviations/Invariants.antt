@@ -1,11 +1,6 @@
--- What the loops of `largest_deviations` keep, and their measures. Assumes nothing.
-use Prim.Native.Nat.{◌-◌}
-use lib.ListN.{length}
+-- What the loop of `largest_deviations` keeps. Assumes nothing.
 use Rattle.energy.proofs.Largest.{SoFar}
 use Rattle.energy.proofs.table.largest_deviations.Given as goal
 
-abbrev pub invariant-loop-i : goal.invariant-loop-i
-invariant-loop-i l = SoFar l.readings l.i l.least l.most
-
-abbrev pub decreases-loop-i : goal.decreases-loop-i
-decreases-loop-i l = length l.readings - l.i
+abbrev pub invariant-loop-reading : goal.invariant-loop-reading
+invariant-loop-reading l = SoFar l.readings l.reading-index l.least l.most
