@@ -1,8 +1,8 @@
--- `capability::each_in_range` meets its contract. Assumes nothing.
+-- `capability::Limits::each_in_range` meets its contract. Assumes nothing.
 use mathlib.Core.Bool.{and-true}
 use borrow.Author.Rules.{rules}
 use Rattle.common.specs.Lists.{every}
-use Rattle.capability.proofs.each_in_range.Goals as goal
+use Rattle.capability.proofs.Limits.each_in_range.Goals as goal
 
 pub returns : goal.returns
 unfolding every
