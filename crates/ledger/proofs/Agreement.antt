@@ -19,7 +19,7 @@ use Rattle.signed.proofs.Orders.{true-le_z, eq_z-refl}
 use Rattle.terms.specs.Terms.{Q}
 use Rattle.terms.specs.declared.Terms.{Terms}
 use Rattle.energy.specs.Period.{low_deviation, high_deviation}
-use Rattle.energy.specs.declared.curve.Curves.{Curves}
+use Rattle.energy.specs.Curve.{Curves}
 use Rattle.energy.proofs.Laws.{bound-most}
 use Rattle.ledger_record.specs.Opening.{opening_causes}
 use Rattle.ledger_record.specs.Rule.{totals_rule, next_start, state_rule, record_rule}

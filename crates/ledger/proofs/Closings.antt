@@ -1,4 +1,4 @@
--- What a closing learns on its way: the most that an accepted purchase is, what the period energy says, and what settling says.
+-- What a closing learns on its way: the most that an accepted purchase is, what the period energy says, and what is answered.
 -- Assumes nothing.
 use mathlib.Core.Path.{◌≡◌, refl, ap, sym, ◌∙◌}
 use mathlib.Core.Bool.{Bool, true, false, not, cond}
@@ -6,25 +6,22 @@ use mathlib.Core.List.{List}
 use Prim.Native.Nat.{ℕ, suc, ◌≤◌}
 use native.Mathlib.Omega.{arith}
 use lib.IntN.{ℤ, pos, ◌+ℤ◌}
-use Rattle.common.specs.Answer.{Answer, refused, given}
+use Rattle.std.specs.Prelude.{Result, Ok, Err}
+use Rattle.common.specs.Answer.{refused, given}
+use Rattle.common.specs.declared.Directions.{Directions}
 use Rattle.common.specs.Periods.{of_period}
 use Rattle.signed.specs.Sign.{above, below}
 use Rattle.signed.proofs.Whole.{whole, one-sided, sum, less}
 use Rattle.signed.proofs.Orders.{within-true}
-use Rattle.terms.specs.Terms.{REV, ER, above1000}
-use Rattle.terms.specs.declared.Quantities.{Quantities}
+use Rattle.terms.specs.Terms.{Quantities, REV, ER, above1000}
 use Rattle.requirement.proofs.Need.{needed, needed-is}
-use Rattle.energy.specs.Curve.{curves_rule}
-use Rattle.energy.specs.Period.{good_readings, low_bound, high_bound, Bounds, period_energy, answer_of}
-use Rattle.energy.specs.declared.curve.Curves.{Curves}
-use Rattle.energy.specs.declared.period.PeriodEnergy.{PeriodEnergy}
-use Rattle.energy.specs.declared.period.PeriodEnergy.TheVariants as energy
+use Rattle.energy.specs.Curve.{Curves, curves_rule}
+use Rattle.energy.specs.Period.{good_readings, bounds_of, period_energy, answer_of}
+use Rattle.energy.specs.declared.period.EnergyRefusal.{EnergyRefusal}
 use Rattle.ledger_record.specs.Rule.{start_at, back_at}
 use Rattle.ledger_record.specs.declared.Entries.{Entries}
 use Rattle.ledger_record.specs.declared.Record.{Record}
-use Rattle.ledger.specs.declared.Settled.{Settled}
-use Rattle.ledger.specs.declared.Settled.TheVariants.{Not, To}
-use Rattle.ledger.specs.Calls.{need, floor, ceiling, accepts}
+use Rattle.ledger.specs.Calls.{unusable, need, floor, ceiling, accepts, Closing, is_trader, new_state, settles, low, high, record_closed, closing}
 
 -- ---- an accepted purchase lies within the size
 
@@ -45,47 +42,59 @@ accepted-most r p e full large =
 
 -- ---- the period energy, where 1 and 5 do not hold
 module _ (low high : Quantities) (c : Curves) (xs : List ℕ) (l : above1000 low ≡ false) (h : above1000 high ≡ false) (k : curves_rule c ≡ true)
-    (r : PeriodEnergy) (e : answer_of r ≡ period_energy low high c xs) where
-  energy-is : answer_of r ≡ cond (not (good_readings xs)) (refused 6) (given (record { low = low_bound low c xs; high = high_bound high c xs }))
+    (r : Result (Directions ℕ) EnergyRefusal) (e : answer_of r ≡ period_energy low high c xs) where
+  energy-is : answer_of r ≡ cond (not (good_readings xs)) (refused 6) (given (bounds_of low high c xs))
   unfolding period_energy
   energy-is = e ∙ rw (l, h, k)
 
   -- no bounds: 6 holds
-  pub no-bounds : ((m n : ℕ) → r ≡ energy.Bounds m n → ⊥) → good_readings xs ≡ false
+  pub no-bounds : ((b : Directions ℕ) → r ≡ Ok b → ⊥) → good_readings xs ≡ false
   no-bounds t = by r t (good_readings xs) energy-is
     where
-      by : (r : PeriodEnergy) → ((m n : ℕ) → r ≡ energy.Bounds m n → ⊥) → (g : Bool)
-          → answer_of r ≡ cond (not g) (refused 6) (given (record { low = low_bound low c xs; high = high_bound high c xs })) → g ≡ false
+      by : (r : Result (Directions ℕ) EnergyRefusal) → ((b : Directions ℕ) → r ≡ Ok b → ⊥) → (g : Bool)
+          → answer_of r ≡ cond (not g) (refused 6) (given (bounds_of low high c xs)) → g ≡ false
       by r t false p = refl
-      by (energy.Bounds m n) t true p = absurd (t m n refl)
-      by energy.Quantity t true p = let z : ◌≡◌ {A = ℕ} 0 1 = cc in absurd (omega arith)
-      by energy.Curve t true p = let z : ◌≡◌ {A = ℕ} 0 1 = cc in absurd (omega arith)
-      by energy.Readings t true p = let z : ◌≡◌ {A = ℕ} 0 1 = cc in absurd (omega arith)
+      by (Ok b) t true p = absurd (t b refl)
+      by (Err x) t true p = let z : ◌≡◌ {A = ℕ} 0 1 = cc in absurd (omega arith)
 
   -- bounds: they are the readings', and 6 does not hold
-  pub record BoundsAre (m n : ℕ) : Type 0 where
-    pub good : good_readings xs ≡ true
-    pub low-is : m ≡ low_bound low c xs
-    pub high_is : n ≡ high_bound high c xs
-
-  pub bounds-are : (m n : ℕ) → r ≡ energy.Bounds m n → BoundsAre m n
-  bounds-are m n q = by (good_readings xs) refl (sym (ap answer_of q) ∙ energy-is)
+  pub bounds-are : (b : Directions ℕ) → r ≡ Ok b → (good_readings xs ≡ true) × (b ≡ bounds_of low high c xs)
+  bounds-are b q = by (good_readings xs) refl (sym (ap answer_of q) ∙ energy-is)
     where
-      same : (a b : Bounds) → given a ≡ given b → a ≡ b
+      same : (a b : Directions ℕ) → given a ≡ given b → a ≡ b
       same a b p = cc
 
-      by : (g : Bool) → good_readings xs ≡ g
-          → ◌≡◌ {A = Answer Bounds} (given (record { low = m; high = n })) (cond (not g) (refused 6) (given (record { low = low_bound low c xs; high = high_bound high c xs }))) → BoundsAre m n
+      by : (g : Bool) → good_readings xs ≡ g → given b ≡ cond (not g) (refused 6) (given (bounds_of low high c xs))
+          → (good_readings xs ≡ true) × (b ≡ bounds_of low high c xs)
       by false f p = let z : ◌≡◌ {A = ℕ} 0 1 = cc in absurd (omega arith)
-      by true f p =
-          let s = same (record { low = m; high = n }) (record { low = low_bound low c xs; high = high_bound high c xs }) p in
-          record { good = f; low-is = ap (λ (b : Bounds). b.low) s; high_is = ap (λ (b : Bounds). b.high) s }
+      by true f p = (f, same b (bounds_of low high c xs) p)
 
--- ---- settling
-pub not-settled : (b : Bool) (n : ℕ) (s : Settled) → s ≡ cond b (To n) Not → s ≡ Not → b ≡ false
-not-settled false n s e q = refl
-not-settled true n s e q = let z : ◌≡◌ {A = ℕ} 0 1 = cc in absurd (omega arith)
+-- ---- what a closing answers, by its causes in their order
+module _ (r : Record) (c : Closing) where
+  pub refused-10 : unusable r ≡ true → closing r c ≡ refused 10
+  unfolding closing
+  refused-10 u = rw u
 
-pub settled-to : (b : Bool) (n m : ℕ) (s : Settled) → s ≡ cond b (To n) Not → s ≡ To m → (b ≡ true) × (m ≡ n)
-settled-to true n m s e q = (refl, cc)
-settled-to false n m s e q = let z : ◌≡◌ {A = ℕ} 0 1 = cc in absurd (omega arith)
+  module _ (u : unusable r ≡ false) where
+    pub refused-19 : is_trader c.trader ≡ false → closing r c ≡ refused 19
+    unfolding closing
+    refused-19 t = rw (u, t)
+
+    module _ (t : is_trader c.trader ≡ true) where
+      pub refused-8 : accepts r c.purchase ≡ false → closing r c ≡ refused 8
+      unfolding closing
+      refused-8 a = rw (u, t, a)
+
+      module _ (a : accepts r c.purchase ≡ true) where
+        pub refused-6 : good_readings c.readings ≡ false → closing r c ≡ refused 6
+        unfolding closing
+        refused-6 g = rw (u, t, a, g)
+
+        module _ (g : good_readings c.readings ≡ true) where
+          pub refused-9 : settles (low r c) (high r c) r.size c.delivered c.taken (new_state (pos r.state) c) ≡ false → closing r c ≡ refused 9
+          unfolding closing
+          refused-9 s = rw (u, t, a, g, s)
+
+          pub carried-out : settles (low r c) (high r c) r.size c.delivered c.taken (new_state (pos r.state) c) ≡ true → closing r c ≡ given (record_closed r c)
+          unfolding closing
+          carried-out s = rw (u, t, a, g, s)

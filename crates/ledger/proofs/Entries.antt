@@ -15,8 +15,7 @@ use Rattle.common.specs.Periods.{periods_to, of_period}
 use Rattle.common.proofs.Periods.{map_next, map-local, length-periods, period-at, every-period}
 use Rattle.signed.specs.Sign.{greater}
 use Rattle.signed.proofs.Orders.{eq_z-refl}
-use Rattle.terms.specs.Terms.{Q, REV, ER}
-use Rattle.terms.specs.declared.Quantities.{Quantities}
+use Rattle.terms.specs.Terms.{Quantities, Q, REV, ER}
 use Rattle.requirement.specs.Requirement.{start, sched, back}
 use Rattle.requirement.proofs.Laws.{start-local, sched-local}
 use Rattle.ledger_record.specs.Rule.{start_at, sched_at, back_at, entry_rule, entries_rule}

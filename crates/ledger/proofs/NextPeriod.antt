@@ -1,17 +1,15 @@
 -- The calls by what the next period begins with: floor and ceiling, and the entries of a closing. Assumes nothing.
-use mathlib.Core.Path.{◌≡◌, sym, ap, ◌∙◌}
-use mathlib.Core.Bool.{Bool, false, not, ◌||◌}
+use mathlib.Core.Path.{◌≡◌, ap, ◌∙◌}
+use mathlib.Core.Bool.{false}
 use Prim.Native.Nat.{ℕ, suc, ◌+◌, ◌-◌, ◌*◌, ◌^◌, ◌≤◌, ◌<◌, min}
 use native.Mathlib.Omega.{arith}
 use borrow.Author.Tests.{ltb-false}
-use lib.Dec.{eqb}
 use lib.IntN.{ℤ, pos, ◌+ℤ◌, ◌-ℤ◌}
 use lib.ListN.{length, get_or, set}
 use lib.Seq.{get_or-set_same, get_or-set_other}
 use Rattle.common.specs.Periods.{of_period}
 use Rattle.signed.specs.Sign.{within}
-use Rattle.terms.specs.Terms.{Q, REV, ER, above1000}
-use Rattle.terms.specs.declared.Quantities.{Quantities}
+use Rattle.terms.specs.Terms.{Quantities, Q, REV, ER, above1000}
 use Rattle.requirement.specs.Requirement.{sched}
 use Rattle.requirement.specs.declared.Next.{Next}
 use Rattle.requirement.proofs.Laws.{back-recovery, left_most, left-local, start-local}
@@ -43,35 +41,26 @@ need-fits q closed x few =
       back_most = omega (arith, back-recovery (ER q) (of_period x.bounds) i, most);
     }
 
--- ---- a record by its standing
-module _ (r : Record) (s : Standing) (is : s ≡ standing_of r) where
-  pub unusable-is : {b : Bool} → b ≡ eqb r.closed 8 || not s.holds → b ≡ unusable r
-  unfolding unusable standing_of
-  unusable-is e = rw is at e
+-- ---- a record that refusal 10 lets through, by its standing
+module _ (r : Record) (s : Standing) (e : unusable r ≡ false) (is : s ≡ standing_of r) where
+  pub needs_fit : NeedFits s.low × NeedFits s.high
+  unfolding standing_of
+  needs_fit =
+      let o = opened r (rule-kept r e) in
+      rw is (need-fits r.terms.low r.closed r.low o.low-quantity, need-fits r.terms.high r.closed r.high o.high-quantity)
 
-  pub can-use : {b : Bool} → b ≡ eqb r.closed 8 || not s.holds → b ≡ false → unusable r ≡ false
-  can-use e free = sym (unusable-is e) ∙ free
-
-  module _ (e : unusable r ≡ false) where
-    pub low_fits : NeedFits s.low
+  module _ (low high : ℕ) (needs : (pos low ≡ needed s.low) × (pos high ≡ needed s.high)) where
+    pub floor-is : pos low ≡ floor r
     unfolding standing_of
-    low_fits = rw is (need-fits r.terms.low r.closed r.low (opened r (rule-kept r e)).low-quantity)
+    floor-is = needs.0 ∙ rw is (need-is r.terms.low r.closed r.low (before_eight r e))
 
-    pub high_fits : NeedFits s.high
+    pub ceiling-is : pos r.size -ℤ pos high ≡ ceiling r
     unfolding standing_of
-    high_fits = rw is (need-fits r.terms.high r.closed r.high (opened r (rule-kept r e)).high-quantity)
+    ceiling-is = ap (λ z. pos r.size -ℤ z) (needs.1 ∙ rw is (need-is r.terms.high r.closed r.high (before_eight r e)))
 
-    pub floor-is : needed s.low ≡ floor r
-    unfolding standing_of
-    floor-is = rw is (need-is r.terms.low r.closed r.low (before_eight r e))
-
-    pub ceiling-is : pos r.size -ℤ needed s.high ≡ ceiling r
-    unfolding standing_of
-    ceiling-is = rw is (ap (λ z. pos r.size -ℤ z) (need-is r.terms.high r.closed r.high (before_eight r e)))
-
-    pub accepts-is : (p : ℤ) {b : Bool} → b ≡ within (needed s.low) (pos r.state +ℤ p) (pos r.size -ℤ needed s.high) → b ≡ accepts r p
+    pub accepts-is : (p : ℤ) → within (pos low) (pos r.state +ℤ p) (pos r.size -ℤ pos high) ≡ accepts r p
     unfolding accepts
-    accepts-is p e = rw (← floor-is, ← ceiling-is) e
+    accepts-is p = rw (floor-is, ceiling-is)
 
 -- ---- entries
 

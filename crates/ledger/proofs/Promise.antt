@@ -17,7 +17,7 @@ use Rattle.common.proofs.Answers.{given_is, given-clear, given-value, or_blank-i
 use Rattle.terms.specs.declared.Terms.{Terms}
 use Rattle.energy.specs.Period.{good_readings, low_deviation, high_deviation}
 use Rattle.energy.specs.Rate.{two, period_count}
-use Rattle.energy.specs.declared.curve.Curves.{Curves}
+use Rattle.energy.specs.Curve.{Curves}
 use Rattle.energy.proofs.Laws.{still-good, still-bound}
 use Rattle.ledger_record.specs.Opening.{opening_causes, first_record, opening}
 use Rattle.ledger_record.specs.declared.Record.{Record}

@@ -16,7 +16,7 @@ use Rattle.common.proofs.Lists.{every_append}
 use Rattle.common.proofs.Tests.{both_true, by-test}
 use Rattle.signed.specs.Sign.{above, below}
 use Rattle.terms.specs.declared.Terms.{Terms}
-use Rattle.energy.specs.declared.curve.Curves.{Curves}
+use Rattle.energy.specs.Curve.{Curves}
 use Rattle.ledger_record.specs.Opening.{opening_causes, first_record, opening}
 use Rattle.ledger_record.specs.Rule.{totals_rule, state_rule, record_rule}
 use Rattle.ledger_record.specs.declared.Record.{Record}

@@ -1,12 +1,11 @@
 -- Paper 01, "Ledger", and paper 02, No. 7: checking, proposing and closing, each as its whole answer for any record. Assumes
 -- nothing.
-use Rattle.std.specs.Prelude.{◌≡◌, Bool, not, cond, ◌&&◌, ◌||◌, List, [], ◌∷◌, ℕ, suc, ◌+◌, ◌-◌, ◌≤◌, ◌<◌, ◌^◌, leb, eqb, ℤ, pos, ◌+ℤ◌, ◌-ℤ◌, get_or, set}
+use Rattle.std.specs.Prelude.{◌≡◌, Bool, true, false, not, cond, ◌&&◌, ◌||◌, List, [], ◌∷◌, Option, None, Some, Result, Ok, Err, ℕ, suc, ◌+◌, ◌-◌, ◌*◌, ◌≤◌, ◌<◌, ◌^◌, leb, eqb, ℤ, pos, ◌+ℤ◌, ◌-ℤ◌, get_or, set}
 use Rattle.std.specs.Int.Signed.{lt_z}
-use Rattle.common.specs.Answer.{Answer, refused, given, Cause, cause, checked}
+use Rattle.common.specs.Answer.{Answer, refused, given, Cause, cause, checked, answered}
 use Rattle.common.specs.Periods.{of_period}
 use Rattle.signed.specs.Sign.{above, below, greater, within}
-use Rattle.terms.specs.Terms.{REV, ER}
-use Rattle.terms.specs.declared.Quantities.{Quantities}
+use Rattle.terms.specs.Terms.{Quantities, Q, REV, ER}
 use Rattle.requirement.specs.Requirement.{sched, start}
 use Rattle.requirement.specs.declared.Next.{Next}
 use Rattle.energy.specs.Period.{good_readings, low_bound, high_bound}
@@ -15,15 +14,13 @@ use Rattle.ledger_record.specs.declared.Entries.{Entries}
 use Rattle.ledger_record.specs.declared.Totals.{Totals}
 use Rattle.ledger_record.specs.declared.Record.{Record}
 use Rattle.ledger_record.specs.declared.Standing.{Standing}
-use Rattle.ledger.specs.declared.Settled.{Settled}
-use Rattle.ledger.specs.declared.Settled.TheVariants as settlements
-use Rattle.ledger.specs.declared.CheckAnswer.{CheckAnswer}
-use Rattle.ledger.specs.declared.CheckAnswer.TheVariants as checks
-use Rattle.ledger.specs.declared.ProposeAnswer.{ProposeAnswer}
-use Rattle.ledger.specs.declared.ProposeAnswer.TheVariants as proposes
-use Rattle.ledger.specs.declared.CloseAnswer.{CloseAnswer}
-use Rattle.ledger.specs.declared.CloseAnswer.TheVariants as closes
-use Rattle.ledger.specs.declared.Closed.{Closed}
+use Rattle.ledger.specs.declared.Closing.{Closing as Asked}
+use Rattle.ledger.specs.declared.CheckRefusal.{CheckRefusal}
+use Rattle.ledger.specs.declared.CheckRefusal.TheVariants as checks
+use Rattle.ledger.specs.declared.ProposeRefusal.{ProposeRefusal}
+use Rattle.ledger.specs.declared.ProposeRefusal.TheVariants as proposes
+use Rattle.ledger.specs.declared.CloseRefusal.{CloseRefusal}
+use Rattle.ledger.specs.declared.CloseRefusal.TheVariants as closes
 
 -- eight periods closed, or record rule broken
 unfoldable pub unusable : Record → Bool
@@ -169,29 +166,41 @@ module _ (r : Record) (c : Closing) where
   unfoldable pub closing : Answer Record
   closing = checked closing_causes record_closed
 
--- ---- the number and values of each case of the code's answers
+-- ---- the code's closing with its readings, and the number of each of the code's refusals
 
-abbrev pub check_answer_of : CheckAnswer → Answer Unit
-check_answer_of checks.Accepted = given tt
-check_answer_of checks.Unusable = refused 10
-check_answer_of checks.Purchase = refused 8
+abbrev pub closing_of : Asked → List ℕ → Closing
+closing_of a readings = closing_with a.purchase readings a.delivered a.taken a.trader
 
-abbrev pub propose_answer_of : ProposeAnswer → Answer ℤ
-propose_answer_of (proposes.Purchase p) = given p
-propose_answer_of proposes.Unusable = refused 10
+abbrev pub check_number : CheckRefusal → ℕ
+check_number checks.Unusable = 10
+check_number checks.Purchase = 8
 
-abbrev pub close_answer_with : {A : Type 0} → CloseAnswer → A → Answer A
-close_answer_with closes.Closed a = given a
-close_answer_with closes.Unusable a = refused 10
-close_answer_with closes.Trader a = refused 19
-close_answer_with closes.Purchase a = refused 8
-close_answer_with closes.Readings a = refused 6
-close_answer_with closes.Energy a = refused 9
+abbrev pub check_answer_of : Result Unit CheckRefusal → Answer Unit
+check_answer_of = answered check_number
 
-abbrev pub close_answer_of : Closed → Answer Record
-close_answer_of c = close_answer_with c.answer c.«record»
+abbrev pub propose_number : ProposeRefusal → ℕ
+propose_number proposes.Unusable = 10
+
+abbrev pub propose_answer_of : Result ℤ ProposeRefusal → Answer ℤ
+propose_answer_of = answered propose_number
+
+abbrev pub close_number : CloseRefusal → ℕ
+close_number closes.Unusable = 10
+close_number closes.Trader = 19
+close_number closes.Purchase = 8
+close_number closes.Readings = 6
+close_number closes.Energy = 9
+
+-- what a closing gives is the record afterwards
+abbrev pub close_answer_of : Result Unit CloseRefusal → Record → Answer Record
+close_answer_of (Ok done) r = given r
+close_answer_of (Err e) r = refused (close_number e)
 
 -- ---- what private functions ask and give
+
+-- `usable_standing`: the standing, where refusal 10 does not hold
+abbrev pub usable_standing : Record → Option Standing
+usable_standing r = cond (not (unusable r)) (Some (standing_of r)) None
 
 -- `need_of`: start and back of a period are such that their sum is a u64
 pub record NeedFits (n : Next) : Type 0 where
@@ -199,23 +208,33 @@ pub record NeedFits (n : Next) : Type 0 where
   pub back_most : n.back ≤ 2 ^ 44
 
 -- `settle`: the new state, where the closing settles
-abbrev pub settling : ℕ → ℕ → ℕ → ℤ → ℤ → ℤ → Settled
-settling low high size delivered taken new = cond (settles low high size delivered taken new) (settlements.To (above new)) settlements.Not
+abbrev pub settling : ℕ → ℕ → ℕ → ℤ → ℤ → ℤ → Option ℕ
+settling low high size delivered taken new = cond (settles low high size delivered taken new) (Some (above new)) None
 
--- `added_to`: the trader has a total, which is a u32 with what is added
+-- `add_to`: the trader has a total, which is a u32 with what is added
 pub record TotalFits (w : ℕ) (each : List ℕ) (more : ℕ) : Type 0 where
   pub trader : (1 ≤ w) × (w ≤ 4)
   pub fits : of_trader each w + more < 2 ^ 32
 
--- `closed_totals`: each total with one more closing is a u32
-pub record TotalsFit (t : Totals) (p delivered taken : ℤ) (w : ℕ) : Type 0 where
-  pub bought_fits : TotalFits w t.bought (above p)
-  pub sold_fits : TotalFits w t.sold (below p)
-  pub delivered_fits : t.delivered + above delivered < 2 ^ 32
-  pub taken_fits : t.taken + above taken < 2 ^ 32
+-- `add_closing`: each total with one more closing is a u32
+pub record TotalsFit (t : Totals) (a : Asked) : Type 0 where
+  pub bought_fits : TotalFits a.trader t.bought (above a.purchase)
+  pub sold_fits : TotalFits a.trader t.sold (below a.purchase)
+  pub delivered_fits : t.delivered + above a.delivered < 2 ^ 32
+  pub taken_fits : t.taken + above a.taken < 2 ^ 32
 
--- `closed_record`: a period is open, the standing is the record's, and the totals fit
-pub record CanClose (r : Record) (s : Standing) (p delivered taken : ℤ) (w : ℕ) : Type 0 where
-  pub period_open : r.closed < 8
+abbrev pub totals_with : Totals → Asked → Totals
+totals_with t a = closed_totals t a.purchase a.delivered a.taken a.trader
+
+-- `carry_out`: 10, 19, 8 and 9 do not hold, by the record's standing, and the bounds are at most 500 × Q, as those of good readings are
+pub record CanClose (r : Record) (s : Standing) (low high : ℕ) (a : Asked) : Type 0 where
+  pub usable : unusable r ≡ false
   pub stands : s ≡ standing_of r
-  pub totals_fit : TotalsFit r.totals p delivered taken w
+  pub trader : is_trader a.trader ≡ true
+  pub accepted : accepts r a.purchase ≡ true
+  pub low_most : low ≤ 500 * Q r.terms.low
+  pub high_most : high ≤ 500 * Q r.terms.high
+  pub settled : settles low high r.size a.delivered a.taken (moved (pos r.state) a.purchase a.delivered a.taken) ≡ true
+
+abbrev pub record_with : Record → ℕ → ℕ → ℕ → Asked → Record
+record_with r low high new a = closed_record r low high new a.purchase a.delivered a.taken a.trader

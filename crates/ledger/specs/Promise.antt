@@ -21,7 +21,7 @@ use Rattle.terms.specs.Terms.{REV, ER}
 use Rattle.terms.specs.declared.Terms.{Terms}
 use Rattle.requirement.specs.Requirement.{start, sched, back}
 use Rattle.energy.specs.Period.{good_readings, low_bound, high_bound}
-use Rattle.energy.specs.declared.curve.Curves.{Curves}
+use Rattle.energy.specs.Curve.{Curves}
 use Rattle.ledger_record.specs.Rule.{record_rule}
 use Rattle.ledger_record.specs.declared.Entries.{Entries}
 use Rattle.ledger_record.specs.declared.Totals.{Totals}

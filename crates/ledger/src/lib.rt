@@ -1,35 +1,33 @@
 // The ledger: checking, proposing and closing, over the record of ledger_record.
 #![tactic(auto)]
 
-ghost use Rattle.std.specs.Prelude.{◌≡◌, not, ◌||◌, ◌+◌, ◌≤◌, ◌<◌, ◌^◌, eqb, pos, ◌+ℤ◌, ◌-ℤ◌};
-ghost use Rattle.common.specs.Answer.{number_of, or_blank};
+ghost use Rattle.std.specs.Prelude.{◌≡◌, ◌+◌, ◌≤◌, ◌<◌, ◌^◌, pos, ◌+ℤ◌, ◌-ℤ◌};
+ghost use Rattle.common.specs.Answer.{or_blank};
 ghost use Rattle.signed.specs.Sign.{within};
 ghost use Rattle.ledger_record.specs.Rule.{next_at};
-ghost use Rattle.ledger.specs.Calls.{need_of, NeedFits, toward, moved, settling, closed_entries, is_trader, TotalFits, added_to, TotalsFit, closed_totals, closed_record, CanClose, checking, check_answer_of, proposing, propose_answer_of, closing_with, closing, close_answer_with, close_answer_of};
+ghost use Rattle.ledger.specs.Calls.{usable_standing, need_of, NeedFits, toward, moved, settling, closed_entries, is_trader, TotalFits, added_to, TotalsFit, totals_with, CanClose, record_with, checking, check_number, check_answer_of, proposing, propose_number, propose_answer_of, closing_of, closing, close_number, close_answer_of};
 
-use energy::period::PeriodEnergy;
+use common::{Directions, Refusal};
+use energy::period::{BySteps, period_energy};
 use ledger_record::{Entries, Record, Standing, Totals};
 use requirement::Next;
 use terms::{DirectionTerms, Quantities};
 
-#[derive(Clone, Copy)]
-pub enum CheckAnswer {
-    Accepted,
+#[derive(Clone, Copy, Debug, PartialEq, Eq)]
+pub enum CheckRefusal {
     // Eight periods are closed, or the record rule is broken.
     Unusable,
     // The purchase is not accepted.
     Purchase,
 }
 
-#[derive(Clone, Copy)]
-pub enum ProposeAnswer {
-    Purchase(i64),
+#[derive(Clone, Copy, Debug, PartialEq, Eq)]
+pub enum ProposeRefusal {
     Unusable,
 }
 
-#[derive(Clone, Copy)]
-pub enum CloseAnswer {
-    Closed,
+#[derive(Clone, Copy, Debug, PartialEq, Eq)]
+pub enum CloseRefusal {
     Unusable,
     // The trader is not 1 to 4.
     Trader,
@@ -40,20 +38,28 @@ pub enum CloseAnswer {
     Energy,
 }
 
+// What a closing is asked with beside its readings: a purchase, energy delivered low and energy taken high, and the trader.
 #[derive(Clone, Copy)]
-pub struct Closed {
-    pub answer: CloseAnswer,
-    pub record: Record,
+pub struct Closing {
+    pub purchase: i64,
+    pub delivered: i64,
+    pub taken: i64,
+    pub trader: u32,
 }
 
-// Refusal 10, by the standing.
-fn is_unusable(closed: u32, holds: bool) -> bool
-    ensures { result ≡ (eqb closed 8 || not holds) }
+// The standing of a record that refusal 10 lets through.
+fn usable_standing(given: &Record) -> Option<Standing>
+    ensures { result ≡ usable_standing given.now }
 {
-    (closed == 8) | !holds
+    let standing = ledger_record::standing_of(given);
+    let unusable = (given.closed == 8) | !standing.holds;
+    if unusable {
+        return None;
+    }
+    Some(standing)
 }
 
-// ---- checking
+// ---- what the next period needs
 
 // The greater of 0 and start + back of the period that begins so.
 fn need_of(next: Next) -> u64
@@ -69,79 +75,102 @@ fn need_of(next: Next) -> u64
     up - down
 }
 
-// Whether state + p lies from low to size less high.
-fn lies_between(low: u64, state: u32, size: u32, high: u64, p: i64) -> bool
-    requires { (low ≤ 2 ^ 45) × (high ≤ 2 ^ 45) }
-    ensures { result ≡ within (pos low) (pos state +ℤ p) (pos size -ℤ pos high) }
-{
-    let up = state as u64 + signed::above_zero(p);
-    let down = signed::below_zero(p);
-    (low + down <= up) & (up + high <= size as u64 + down)
+// What each direction needs of the state: the low one below it, the high one between it and the size.
+#[derive(Clone, Copy)]
+struct Needs {
+    low: u64,
+    high: u64,
+    ghost low_most: { low ≤ 2 ^ 45 },
+    ghost high_most: { high ≤ 2 ^ 45 },
 }
 
-// Whether a purchase is accepted, by what the next period begins with.
-fn is_accepted(state: u32, size: u32, low: Next, high: Next, purchase: i64) -> bool
-    requires { NeedFits low × NeedFits high }
-    ensures { result ≡ within (need_of low.start low.back) (pos state +ℤ purchase) (pos size -ℤ need_of high.start high.back) }
-{
-    lies_between(need_of(low), state, size, need_of(high), purchase)
+impl Needs {
+    fn of(standing: Standing) -> Needs
+        requires { NeedFits standing.low × NeedFits standing.high }
+        ensures { (pos result.low ≡ need_of standing.low.start standing.low.back) × (pos result.high ≡ need_of standing.high.start standing.high.back) }
+    {
+        Needs {
+            low: need_of(standing.low),
+            high: need_of(standing.high),
+        }
+    }
+
+    // Whether state + purchase lies from low to size less high.
+    fn accept(self, state: u32, size: u32, purchase: i64) -> bool
+        ensures { result ≡ within (pos self.low) (pos state +ℤ purchase) (pos size -ℤ pos self.high) }
+    {
+        let up = state as u64 + signed::above_zero(purchase);
+        let down = signed::below_zero(purchase);
+        (self.low + down <= up) & (up + self.high <= size as u64 + down)
+    }
+
+    // What brings the state to low or more and to size less high or less.
+    fn proposal(self, state: u32, size: u32) -> i64
+        ensures { result ≡ toward (pos self.low) (pos state) (pos size -ℤ pos self.high) }
+    {
+        let low = self.low;
+        let high = self.high;
+        let state = state as u64;
+        let size = size as u64;
+        if state < low {
+            return signed::difference(low, state);
+        }
+        if size < state + high {
+            return signed::difference(size, state + high);
+        }
+        0
+    }
 }
+
+// ---- checking
 
 // Checks a purchase, of which a negative one is a sale: refusals 10, 8.
-pub fn check_purchase(given: Record, purchase: i64) -> CheckAnswer
-    ensures { check_answer_of result ≡ checking given purchase }
+pub fn check_purchase(given: &Record, purchase: i64) -> Result<(), CheckRefusal>
+    ensures { check_answer_of result ≡ checking given.now purchase }
 {
-    let s = ledger_record::standing_of(given);
-    if is_unusable(given.closed, s.holds) {
-        return CheckAnswer::Unusable;
+    let Some(standing) = usable_standing(given) else {
+        return Err(CheckRefusal::Unusable);
+    };
+    if !Needs::of(standing).accept(given.state, given.size, purchase) {
+        return Err(CheckRefusal::Purchase);
     }
-    let low = s.low;
-    let high = s.high;
-    if !is_accepted(given.state, given.size, low, high, purchase) {
-        return CheckAnswer::Purchase;
+    Ok(())
+}
+
+impl Refusal for CheckRefusal {
+    ghost refusal = { check_number };
+
+    fn number(self) -> u32 {
+        match self {
+            CheckRefusal::Unusable => 10,
+            CheckRefusal::Purchase => 8,
+        }
     }
-    CheckAnswer::Accepted
 }
 
 // ---- proposing
 
-// What brings the state to low or more and to size less high or less.
-fn toward(low: u64, state: u32, size: u32, high: u64) -> i64
-    requires { (low ≤ 2 ^ 45) × (high ≤ 2 ^ 45) }
-    ensures { result ≡ toward (pos low) (pos state) (pos size -ℤ pos high) }
+// Proposes the accepted purchase nearest 0: refusal 10.
+pub fn propose_purchase(given: &Record) -> Result<i64, ProposeRefusal>
+    ensures { propose_answer_of result ≡ proposing given.now }
 {
-    let state = state as u64;
-    let size = size as u64;
-    if state < low {
-        return signed::difference(low, state);
-    }
-    if size < state + high {
-        return signed::difference(size, state + high);
-    }
-    0
+    let Some(standing) = usable_standing(given) else {
+        return Err(ProposeRefusal::Unusable);
+    };
+    Ok(Needs::of(standing).proposal(given.state, given.size))
 }
 
-// Proposes the accepted purchase nearest 0: refusal 10.
-pub fn propose_purchase(given: Record) -> ProposeAnswer
-    ensures { propose_answer_of result ≡ proposing given }
-{
-    let s = ledger_record::standing_of(given);
-    if is_unusable(given.closed, s.holds) {
-        return ProposeAnswer::Unusable;
+impl Refusal for ProposeRefusal {
+    ghost refusal = { propose_number };
+
+    fn number(self) -> u32 {
+        match self {
+            ProposeRefusal::Unusable => 10,
+        }
     }
-    let low = s.low;
-    let high = s.high;
-    ProposeAnswer::Purchase(toward(need_of(low), given.state, given.size, need_of(high)))
 }
 
 // ---- closing
-
-// The new state, where a closing settles.
-#[derive(Clone, Copy)]
-enum Settled {
-    Not,
-    To(u32),
-}
 
 fn within_bound(energy: i64, bound: u32) -> bool
     ensures { result ≡ within (pos 0) energy (pos bound) }
@@ -149,50 +178,34 @@ fn within_bound(energy: i64, bound: u32) -> bool
     (0 <= energy) & (energy <= bound as i64)
 }
 
-fn settle(
-    state: u32,
-    size: u32,
-    low: u32,
-    high: u32,
-    purchase: i64,
-    delivered: i64,
-    taken: i64,
-) -> Settled
-    ensures { result ≡ settling low high size delivered taken (moved (pos state) purchase delivered taken) }
+// The new state, where a closing settles.
+fn settle(state: u32, size: u32, bounds: Directions<u32>, asked: Closing) -> Option<u32>
+    ensures { result ≡ settling bounds.low bounds.high size asked.delivered asked.taken (moved (pos state) asked.purchase asked.delivered asked.taken) }
 {
-    if !(within_bound(delivered, low) & within_bound(taken, high)) {
-        return Settled::Not;
+    if !(within_bound(asked.delivered, bounds.low) & within_bound(asked.taken, bounds.high)) {
+        return None;
     }
-    let comes = state as u64 + signed::above_zero(purchase) + signed::above_zero(taken);
-    let goes = signed::below_zero(purchase) + signed::above_zero(delivered);
+    let comes = state as u64 + signed::above_zero(asked.purchase) + signed::above_zero(asked.taken);
+    let goes = signed::below_zero(asked.purchase) + signed::above_zero(asked.delivered);
     if comes < goes {
-        return Settled::Not;
+        return None;
     }
     let new = comes - goes;
     if (size as u64) < new {
-        return Settled::Not;
+        return None;
     }
-    Settled::To(new as u32)
+    Some(new as u32)
 }
 
-// A direction's entries with one period more, which begins so.
-fn closed_entries(q: Quantities, entries: Entries, closed: u32, bound: u32, next: Next) -> Entries
-    requires { (closed < 8) × (next ≡ next_at q closed entries) }
-    ensures { result ≡ closed_entries q entries closed bound }
+// Closes one period more in a direction's entries, which begins so.
+fn close_entries(entries: &mut Entries, q: Quantities, closed: u32, bound: u32, next: Next)
+    requires { (closed < 8) × (next ≡ next_at q closed entries.old) }
+    ensures { entries.new ≡ closed_entries q entries.old closed bound }
 {
     let at = closed as usize;
-    let mut bounds = entries.bounds;
-    bounds[at] = bound;
-    let start = next.start;
-    let mut starts = entries.starts;
-    starts[at] = start;
-    let mut scheds = entries.scheds;
-    scheds[at] = common::smaller(bound as u64 + next.left, DirectionTerms::of(q).er);
-    Entries {
-        bounds,
-        starts,
-        scheds,
-    }
+    entries.bounds[at] = bound;
+    entries.starts[at] = next.start;
+    entries.scheds[at] = (bound as u64 + next.left).min(DirectionTerms::of(q).er);
 }
 
 // A total with what a closing adds to it.
@@ -203,78 +216,44 @@ fn total_with(total: u32, more: u64) -> u32
     total + more as u32
 }
 
-// The traders' totals, with what a closing adds to that of its trader.
-fn added_to(trader: u32, each: [u32; 4], more: u64) -> [u32; 4]
-    requires { TotalFits trader each more }
-    ensures { result ≡ added_to trader each more }
+// Adds to the traders' totals what a closing adds to that of its trader.
+fn add_to(each: &mut [u32; 4], trader: u32, more: u64)
+    requires { TotalFits trader each.old more }
+    ensures { each.new ≡ added_to trader each.old more }
 {
     let at = (trader - 1) as usize;
-    let mut totals = each;
-    totals[at] = total_with(each[at], more);
-    totals
+    each[at] = total_with(each[at], more);
 }
 
-// The totals with one more period closed.
-fn closed_totals(totals: Totals, purchase: i64, delivered: i64, taken: i64, trader: u32) -> Totals
-    requires { TotalsFit totals purchase delivered taken trader }
-    ensures { result ≡ closed_totals totals purchase delivered taken trader }
+// Adds a closing to the totals.
+fn add_closing(totals: &mut Totals, asked: Closing)
+    requires { TotalsFit totals.old asked }
+    ensures { totals.new ≡ totals_with totals.old asked }
 {
-    let bought = totals.bought;
-    let sold = totals.sold;
-    Totals {
-        bought: added_to(trader, bought, signed::above_zero(purchase)),
-        sold: added_to(trader, sold, signed::below_zero(purchase)),
-        delivered: total_with(totals.delivered, signed::above_zero(delivered)),
-        taken: total_with(totals.taken, signed::above_zero(taken)),
-    }
+    add_to(&mut totals.bought, asked.trader, signed::above_zero(asked.purchase));
+    add_to(&mut totals.sold, asked.trader, signed::below_zero(asked.purchase));
+    totals.delivered = total_with(totals.delivered, signed::above_zero(asked.delivered));
+    totals.taken = total_with(totals.taken, signed::above_zero(asked.taken));
 }
 
-// The record with one more period closed, by its standing before.
-fn closed_record(
-    given: Record,
-    s: Standing,
-    low: u32,
-    high: u32,
+// Closes one period more in a record, by its standing before.
+fn carry_out(
+    given: &mut Record,
+    standing: Standing,
+    bounds: Directions<u32>,
     new: u32,
-    purchase: i64,
-    delivered: i64,
-    taken: i64,
-    trader: u32,
-) -> Record
-    requires { CanClose given s purchase delivered taken trader }
-    ensures { result ≡ closed_record given low high new purchase delivered taken trader }
+    asked: Closing,
+)
+    requires { CanClose given.old standing bounds.low bounds.high asked }
+    ensures { given.new ≡ record_with given.old bounds.low bounds.high new asked }
 {
-    let t = given.terms;
-    let curves = given.curves;
-    let low_q = t.low;
-    let high_q = t.high;
-    let low_entries = given.low;
-    let high_entries = given.high;
     let closed = given.closed;
-    let totals = given.totals;
-    let low_next = s.low;
-    let high_next = s.high;
-    Record {
-        terms: t,
-        curves,
-        size: given.size,
-        first: given.first,
-        state: new,
-        closed: closed + 1,
-        low: closed_entries(low_q, low_entries, closed, low, low_next),
-        high: closed_entries(high_q, high_entries, closed, high, high_next),
-        totals: closed_totals(totals, purchase, delivered, taken, trader),
-    }
-}
-
-// A refusal, beside the record as it was.
-fn refuse(answer: CloseAnswer, given: Record) -> Closed
-    ensures { result ≡ record { answer = answer; «record» = given } }
-{
-    Closed {
-        answer,
-        record: given,
-    }
+    let t = given.terms;
+    given.state = new;
+    given.closed = closed + 1;
+    close_entries(&mut given.low, t.low, closed, bounds.low, standing.low);
+    close_entries(&mut given.high, t.high, closed, bounds.high, standing.high);
+    add_closing(&mut given.totals, asked);
 }
 
 // Whether a trader is 1 to 4; refusal 19 where not.
@@ -284,78 +263,44 @@ fn is_trader(trader: u32) -> bool
     (1 <= trader) & (trader <= 4)
 }
 
-// Closes a period: refusals 10, 19, 8, 6, 9; the record stays as it was beside a refusal.
-pub fn close_period(
-    given: Record,
-    purchase: i64,
-    readings: &[u16],
-    delivered: i64,
-    taken: i64,
-    trader: u32,
-) -> Closed
-    ensures answer { close_answer_of result ≡ closing given (closing_with purchase readings.now delivered taken trader) }
-    ensures beside { result.«record» ≡ or_blank given (closing given (closing_with purchase readings.now delivered taken trader)) }
+// Closes a period: refusals 10, 19, 8, 6, 9; a record whose closing is refused stays as it was.
+pub fn close_period(given: &mut Record, asked: Closing, readings: &[u16]) -> Result<(), CloseRefusal>
+    ensures answer { close_answer_of result given.new ≡ closing given.old (closing_of asked readings.now) }
+    ensures kept { given.new ≡ or_blank given.old (closing given.old (closing_of asked readings.now)) }
 {
-    let s = ledger_record::standing_of(given);
-    if is_unusable(given.closed, s.holds) {
-        return refuse(CloseAnswer::Unusable, given);
-    }
-    if !is_trader(trader) {
-        return refuse(CloseAnswer::Trader, given);
-    }
-    let low_next = s.low;
-    let high_next = s.high;
-    if !is_accepted(given.state, given.size, low_next, high_next, purchase) {
-        return refuse(CloseAnswer::Purchase, given);
-    }
-    let t = given.terms;
-    let curves = given.curves;
-    let low_q = t.low;
-    let high_q = t.high;
-    let bounds = energy::period::period_energy(low_q, high_q, curves, readings);
-    let PeriodEnergy::Bounds { low, high } = bounds else {
-        return refuse(CloseAnswer::Readings, given);
+    let Some(standing) = usable_standing(given) else {
+        return Err(CloseRefusal::Unusable);
     };
-    let size = given.size;
-    let Settled::To(new) = settle(given.state, size, low, high, purchase, delivered, taken) else {
-        return refuse(CloseAnswer::Energy, given);
+    if !is_trader(asked.trader) {
+        return Err(CloseRefusal::Trader);
+    }
+    if !Needs::of(standing).accept(given.state, given.size, asked.purchase) {
+        return Err(CloseRefusal::Purchase);
+    }
+    let quantities = Directions {
+        low: given.terms.low,
+        high: given.terms.high,
     };
-    Closed {
-        answer: CloseAnswer::Closed,
-        record: closed_record(given, s, low, high, new, purchase, delivered, taken, trader),
-    }
+    let Ok(bounds) = period_energy::<BySteps>(quantities, given.curves, readings) else {
+        return Err(CloseRefusal::Readings);
+    };
+    let Some(new) = settle(given.state, given.size, bounds, asked) else {
+        return Err(CloseRefusal::Energy);
+    };
+    carry_out(given, standing, bounds, new, asked);
+    Ok(())
 }
 
-// ---- the numbers of the answers, 0 where nothing is refused
+impl Refusal for CloseRefusal {
+    ghost refusal = { close_number };
 
-pub fn check_number(answer: CheckAnswer) -> u32
-    ensures { result ≡ number_of (check_answer_of answer) }
-{
-    match answer {
-        CheckAnswer::Accepted => 0,
-        CheckAnswer::Unusable => 10,
-        CheckAnswer::Purchase => 8,
-    }
-}
-
-pub fn propose_number(answer: ProposeAnswer) -> u32
-    ensures { result ≡ number_of (propose_answer_of answer) }
-{
-    match answer {
-        ProposeAnswer::Purchase(_) => 0,
-        ProposeAnswer::Unusable => 10,
-    }
-}
-
-pub fn close_number(answer: CloseAnswer) -> u32
-    ensures { result ≡ number_of {A = Unit} (close_answer_with answer tt) }
-{
-    match answer {
-        CloseAnswer::Closed => 0,
-        CloseAnswer::Unusable => 10,
-        CloseAnswer::Trader => 19,
-        CloseAnswer::Purchase => 8,
-        CloseAnswer::Readings => 6,
-        CloseAnswer::Energy => 9,
+    fn number(self) -> u32 {
+        match self {
+            CloseRefusal::Unusable => 10,
+            CloseRefusal::Trader => 19,
+            CloseRefusal::Purchase => 8,
+            CloseRefusal::Readings => 6,
+            CloseRefusal::Energy => 9,
+        }
     }
 }

@@ -13,8 +13,7 @@ use Rattle.common.specs.Lists.{every}
 use Rattle.common.specs.Periods.{periods_to, of_period}
 use Rattle.common.proofs.Lists.{every-both}
 use Rattle.common.proofs.Periods.{every-next, every-until}
-use Rattle.terms.specs.Terms.{Q, REV, ER}
-use Rattle.terms.specs.declared.Quantities.{Quantities}
+use Rattle.terms.specs.Terms.{Quantities, Q, REV, ER}
 use Rattle.requirement.specs.Requirement.{noted, matched_to}
 use Rattle.ledger_record.specs.Rule.{start_at, sched_at, requirement_of, entry_rule, entries_rule, within_rule}
 use Rattle.ledger_record.specs.declared.Entries.{Entries}

@@ -12,8 +12,7 @@ use Rattle.common.specs.Periods.{of_period}
 use Rattle.common.proofs.Lists.{sum-entries}
 use Rattle.common.proofs.Periods.{period-holds}
 use Rattle.common.proofs.Tests.{both_true}
-use Rattle.terms.specs.Terms.{Q, above1000}
-use Rattle.terms.specs.declared.Quantities.{Quantities}
+use Rattle.terms.specs.Terms.{Quantities, Q, above1000}
 use Rattle.ledger_record.specs.Opening.{opening_causes}
 use Rattle.ledger_record.specs.Rule.{entry_rule, entries_rule, totals_rule, state_rule, record_rule}
 use Rattle.ledger_record.specs.declared.Entries.{Entries}

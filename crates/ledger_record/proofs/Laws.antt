@@ -5,8 +5,7 @@ use Prim.Native.Nat.{ℕ, suc, ◌≤◌, ◌<◌}
 use native.Mathlib.Omega.{arith}
 use lib.IntN.{pos}
 use Rattle.common.specs.Periods.{of_period}
-use Rattle.terms.specs.Terms.{Q, REV, ER}
-use Rattle.terms.specs.declared.Quantities.{Quantities}
+use Rattle.terms.specs.Terms.{Quantities, Q, REV, ER}
 use Rattle.requirement.proofs.Laws.{start-unmoved}
 use Rattle.ledger_record.specs.Rule.{start_at, entries_rule}
 use Rattle.ledger_record.specs.declared.Entries.{Entries}

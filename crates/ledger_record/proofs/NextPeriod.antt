@@ -10,7 +10,7 @@ use lib.IntN.{ℤ}
 use Rattle.common.specs.Answer.{clear}
 use Rattle.common.specs.Lists.{sum}
 use Rattle.signed.proofs.Orders.{balance}
-use Rattle.terms.specs.declared.Quantities.{Quantities}
+use Rattle.terms.specs.Terms.{Quantities}
 use Rattle.ledger_record.specs.Opening.{opening_causes}
 use Rattle.ledger_record.specs.Rule.{start_at, next_start, next_at, entries_rule, totals_rule, passes_both, state_rule, record_rule, standing_of, direction_of}
 use Rattle.ledger_record.specs.declared.Direction.{Direction}

@@ -1,4 +1,4 @@
--- What opening's checks let through, as facts, and what its answer says. Assumes nothing.
+-- What opening's checks let through, as facts, and what their answer says. Assumes nothing.
 use mathlib.Core.Path.{◌≡◌, refl, ap, ◌∙◌}
 use mathlib.Core.Bool.{true, false, cond, ◌&&◌, ◌||◌}
 use mathlib.Core.List.{List}
@@ -8,7 +8,9 @@ use borrow.Author.Tests.{ltb-false, not-false}
 use lib.Dec.{ltb, eqb}
 use lib.IntN.{pos, ◌-ℤ◌}
 use lib.Signed.{lt_z}
-use Rattle.common.specs.Answer.{is_given, Cause, checked, clear, or_blank}
+use Rattle.std.specs.Prelude.{Result, Ok, Err}
+use Rattle.std.specs.Result.{is_ok}
+use Rattle.common.specs.Answer.{is_given, Cause, checked, clear}
 use Rattle.common.proofs.Answers.{given_is, holds_of, clear_of}
 use Rattle.common.proofs.Tests.{neither}
 use Rattle.signed.proofs.Whole.{whole, less}
@@ -16,11 +18,9 @@ use Rattle.signed.proofs.Orders.{lt_z-false}
 use Rattle.terms.specs.Terms.{Q, REV, above1000}
 use Rattle.terms.specs.declared.Terms.{Terms}
 use Rattle.energy.specs.Curve.{curves_rule}
-use Rattle.energy.specs.declared.curve.Curves.{Curves}
-use Rattle.ledger_record.specs.Opening.{opening_causes, answer_with}
-use Rattle.ledger_record.specs.declared.Record.{Record}
-use Rattle.ledger_record.specs.declared.OpenAnswer.{OpenAnswer}
-use Rattle.ledger_record.specs.declared.OpenAnswer.TheVariants as answers
+use Rattle.energy.specs.Curve.{Curves}
+use Rattle.ledger_record.specs.Opening.{opening_causes, answer_of}
+use Rattle.ledger_record.specs.declared.OpenRefusal.{OpenRefusal}
 
 module _ (t : Terms) (curves : Curves) (size first : ℕ) where
   pub record LetThrough : Type 0 where
@@ -54,27 +54,7 @@ module _ (t : Terms) (curves : Curves) (size first : ℕ) where
         first-most = omega (arith, whole, less (pos size) (pos (REV t.high)));
       }
 
--- ---- the code's answer
-
--- whether it is open does not depend on what is given with it
-given-same : {A B : Type 0} (x : OpenAnswer) (a : A) (b : B) → is_given (answer_with x a) ≡ is_given (answer_with x b)
-given-same answers.Open a b = refl
-given-same answers.Quantity a b = refl
-given-same answers.Power a b = refl
-given-same answers.Curve a b = refl
-given-same answers.Size a b = refl
-given-same answers.State a b = refl
-
-pub open_is : (x : OpenAnswer) (causes : List Cause) (r : Record) → answer_with x r ≡ checked causes r → is_given {A = Unit} (answer_with x tt) ≡ clear causes
-open_is x causes r e = given-same x tt r ∙ ap is_given e ∙ given_is causes r
-
--- the record that stands beside it: a new one where it is open, otherwise a blank one
-pub beside : (x : OpenAnswer) (new blank : Record) →
-    let r = cond (is_given {A = Unit} (answer_with x tt)) new blank in
-    (answer_with x r ≡ answer_with x new) × (r ≡ or_blank blank (answer_with x new))
-beside answers.Open new blank = (refl, refl)
-beside answers.Quantity new blank = (refl, refl)
-beside answers.Power new blank = (refl, refl)
-beside answers.Curve new blank = (refl, refl)
-beside answers.Size new blank = (refl, refl)
-beside answers.State new blank = (refl, refl)
+-- ---- the checks' answer: nothing is refused where no cause holds
+pub ok_is : (r : Result Unit OpenRefusal) (causes : List Cause) → answer_of r ≡ checked causes tt → is_ok r ≡ clear causes
+ok_is (Ok u) causes e = ap is_given e ∙ given_is causes tt
+ok_is (Err x) causes e = ap is_given e ∙ given_is causes tt

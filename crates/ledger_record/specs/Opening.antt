@@ -1,18 +1,16 @@
 -- Paper 01, "Ledger": what opening checks, and the record that it returns. Assumes nothing.
-use Rattle.std.specs.Prelude.{Bool, not, ◌&&◌, ◌||◌, List, [], ◌∷◌, ℕ, ◌+◌, ltb, eqb, pos, ◌-ℤ◌, replicate}
+use Rattle.std.specs.Prelude.{Bool, not, ◌&&◌, ◌||◌, List, [], ◌∷◌, Result, ℕ, ◌+◌, ltb, eqb, pos, ◌-ℤ◌, replicate}
 use Rattle.std.specs.Int.Signed.{lt_z}
-use Rattle.common.specs.Answer.{Answer, refused, given, Cause, cause, checked}
+use Rattle.common.specs.Answer.{Answer, Cause, cause, checked, answered}
 use Rattle.terms.specs.Terms.{Q, REV, no_quantities, above1000, limits_broken}
 use Rattle.terms.specs.declared.Terms.{Terms}
-use Rattle.energy.specs.Curve.{blank, curves_rule}
+use Rattle.energy.specs.Curve.{Curves, blank, curves_rule}
 use Rattle.energy.specs.declared.curve.Curve.{Curve}
-use Rattle.energy.specs.declared.curve.Curves.{Curves}
 use Rattle.ledger_record.specs.declared.Entries.{Entries}
 use Rattle.ledger_record.specs.declared.Totals.{Totals}
 use Rattle.ledger_record.specs.declared.Record.{Record}
-use Rattle.ledger_record.specs.declared.OpenAnswer.{OpenAnswer}
-use Rattle.ledger_record.specs.declared.OpenAnswer.TheVariants as answers
-use Rattle.ledger_record.specs.declared.Opened.{Opened}
+use Rattle.ledger_record.specs.declared.OpenRefusal.{OpenRefusal}
+use Rattle.ledger_record.specs.declared.OpenRefusal.TheVariants.{Quantity, Power, Curve as BadCurve, Size, State}
 
 -- ---- refusals 1, 2, 5, 3, 4 in that order
 
@@ -64,7 +62,7 @@ first_record t curves size first =
 unfoldable pub opening : Terms → Curves → ℕ → ℕ → Answer Record
 opening t curves size first = checked (opening_causes t curves size first) (first_record t curves size first)
 
--- ---- all zero: what stands beside a refused opening
+-- ---- all zero: what stands where an opening is refused
 
 abbrev pub blank_curve : Curve
 blank_curve = record { count = 0; points = replicate 5 blank }
@@ -76,14 +74,13 @@ blank_record =
     (record { dc = blank_curve; dm = blank_curve; dr = blank_curve })
     0 0
 
--- the number, or what is given, of each case of the code's answer
-abbrev pub answer_with : {A : Type 0} → OpenAnswer → A → Answer A
-answer_with answers.Open a = given a
-answer_with answers.Quantity a = refused 1
-answer_with answers.Power a = refused 2
-answer_with answers.Curve a = refused 5
-answer_with answers.Size a = refused 3
-answer_with answers.State a = refused 4
+-- the number of each of the code's refusals
+abbrev pub refusal_number : OpenRefusal → ℕ
+refusal_number Quantity = 1
+refusal_number Power = 2
+refusal_number BadCurve = 5
+refusal_number Size = 3
+refusal_number State = 4
 
-abbrev pub answer_of : Opened → Answer Record
-answer_of o = answer_with o.answer o.«record»
+abbrev pub answer_of : {A : Type 0} → Result A OpenRefusal → Answer A
+answer_of = answered refusal_number

@@ -5,8 +5,7 @@ use Rattle.common.specs.Answer.{clear}
 use Rattle.common.specs.Lists.{sum, every}
 use Rattle.common.specs.Periods.{periods_to, of_period}
 use Rattle.signed.specs.Sign.{eq_z}
-use Rattle.terms.specs.Terms.{Q, REV, ER}
-use Rattle.terms.specs.declared.Quantities.{Quantities}
+use Rattle.terms.specs.Terms.{Quantities, Q, REV, ER}
 use Rattle.requirement.specs.Requirement.{sched, back, start, noted, next_of, requirement_in}
 use Rattle.requirement.specs.declared.Next.{Next}
 use Rattle.ledger_record.specs.declared.Direction.{Direction}

@@ -1,20 +1,20 @@
 // The ledger's record, its rule and opening.
 #![tactic(auto)]
 
-ghost use Rattle.std.specs.Prelude.{◌≡◌, cond, ◌&&◌, ◌+◌, ◌*◌, ◌<◌, ◌^◌, leb, eqb, pos};
-ghost use Rattle.common.specs.Answer.{number_of, is_given, or_blank};
+ghost use Rattle.std.specs.Prelude.{◌≡◌, cond, ◌&&◌, ◌+◌, ◌*◌, ◌≤◌, ◌^◌, length, leb, eqb, pos};
+ghost use Rattle.common.specs.Answer.{checked};
 ghost use Rattle.common.specs.Lists.{sum};
-ghost use Rattle.energy.specs.Curve.{curves_rule};
 ghost use Rattle.requirement.specs.Requirement.{noted};
-ghost use Rattle.energy.specs.declared.curve.Curves.{Curves};
-ghost use Rattle.ledger_record.specs.Opening.{quantity_out, size_out, first_out, first_record, blank_record, opening, answer_with, answer_of};
-ghost use Rattle.ledger_record.specs.Rule.{within_rule, direction_of, next_start, passes_both, record_rule, standing_of};
+ghost use Rattle.ledger_record.specs.Opening.{quantity_out, size_out, first_out, opening_causes, first_record, blank_record, opening, refusal_number, answer_of};
+ghost use Rattle.ledger_record.specs.Rule.{within_rule, direction_of, next_start, totals_rule, passes_both, record_rule, standing_of};
 
+use common::Refusal;
 use energy::curve::{Curve, Curves, Point, curves_hold};
 use requirement::Next;
 use terms::{DirectionTerms, Quantities, Terms};
 
-// A direction's bound, requirement (its start) and schedule of each closed period.
+// A direction's bound, requirement (its start) and schedule of each closed period. The papers' definitions read each as a list of its
+// own.
 #[derive(Clone, Copy)]
 pub struct Entries {
     pub bounds: [u32; 8],
@@ -45,9 +45,8 @@ pub struct Record {
     pub totals: Totals,
 }
 
-#[derive(Clone, Copy)]
-pub enum OpenAnswer {
-    Open,
+#[derive(Clone, Copy, Debug, PartialEq, Eq)]
+pub enum OpenRefusal {
     // A direction is above 1,000 MW, or both are 0.
     Quantity,
     // A power limit is outside its range, or overbid.
@@ -58,12 +57,6 @@ pub enum OpenAnswer {
     Size,
     // The first state is below the low REV or above the size less the high REV.
     State,
-}
-
-#[derive(Clone, Copy)]
-pub struct Opened {
-    pub answer: OpenAnswer,
-    pub record: Record,
 }
 
 // ---- opening
@@ -96,39 +89,26 @@ fn first_out(t: Terms, size: u32, first: u32) -> bool
     (first < DirectionTerms::of(t.low).rev) | (size < first + DirectionTerms::of(t.high).rev)
 }
 
-// The first of the causes 1, 2, 5, 3, 4 that holds, for curves that keep their rule or not.
-fn opening_answer(t: Terms, good_curves: bool, size: u32, first: u32) -> OpenAnswer
-    ensures { (curves : Curves) → curves_rule curves ≡ good_curves → answer_with result (first_record t curves size first) ≡ opening t curves size first }
+// The first of the causes 1, 2, 5, 3, 4 that holds.
+fn check_opening(t: Terms, curves: Curves, size: u32, first: u32) -> Result<(), OpenRefusal>
+    ensures { answer_of result ≡ checked (opening_causes t curves size first) tt }
 {
     if quantity_out(t) {
-        return OpenAnswer::Quantity;
+        return Err(OpenRefusal::Quantity);
     }
     if terms::limits_broken(t) {
-        return OpenAnswer::Power;
+        return Err(OpenRefusal::Power);
     }
-    if !good_curves {
-        return OpenAnswer::Curve;
+    if !curves_hold(curves) {
+        return Err(OpenRefusal::Curve);
     }
     if size_out(t, size) {
-        return OpenAnswer::Size;
+        return Err(OpenRefusal::Size);
     }
     if first_out(t, size, first) {
-        return OpenAnswer::State;
+        return Err(OpenRefusal::State);
     }
-    OpenAnswer::Open
-}
-
-fn is_open(answer: OpenAnswer) -> bool
-    ensures { result ≡ is_given {A = Unit} (answer_with answer tt) }
-{
-    match answer {
-        OpenAnswer::Open => true,
-        OpenAnswer::Quantity => false,
-        OpenAnswer::Power => false,
-        OpenAnswer::Curve => false,
-        OpenAnswer::Size => false,
-        OpenAnswer::State => false,
-    }
+    Ok(())
 }
 
 // No period closed.
@@ -158,7 +138,7 @@ fn first_record(terms: Terms, curves: Curves, size: u32, first: u32) -> Record
     }
 }
 
-// All zero.
+// All zero: what a caller may show in place of a record that is refused.
 pub fn blank_record() -> Record
     ensures { result ≡ blank_record }
 {
@@ -188,27 +168,37 @@ pub fn blank_record() -> Record
     first_record(t, curves, 0, 0)
 }
 
-// Opens a record: refusals 1, 2, 5, 3, 4; a blank record stands beside a refusal.
-pub fn open_record(t: Terms, curves: Curves, size: u32, first: u32) -> Opened
-    ensures answer { answer_of result ≡ opening t curves size first }
-    ensures beside { result.«record» ≡ or_blank blank_record (opening t curves size first) }
+// Opens a record: refusals 1, 2, 5, 3, 4.
+pub fn open_record(
+    t: Terms,
+    curves: Curves,
+    size: u32,
+    first: u32,
+) -> Result<Record, OpenRefusal>
+    ensures { answer_of result ≡ opening t curves size first }
 {
-    let answer = opening_answer(t, curves_hold(curves), size, first);
-    if !is_open(answer) {
-        return Opened {
-            answer,
-            record: blank_record(),
-        };
-    }
-    Opened {
-        answer,
-        record: first_record(t, curves, size, first),
+    check_opening(t, curves, size, first)?;
+    Ok(first_record(t, curves, size, first))
+}
+
+impl Refusal for OpenRefusal {
+    ghost refusal = { refusal_number };
+
+    fn number(self) -> u32 {
+        match self {
+            OpenRefusal::Quantity => 1,
+            OpenRefusal::Power => 2,
+            OpenRefusal::Curve => 5,
+            OpenRefusal::Size => 3,
+            OpenRefusal::State => 4,
+        }
     }
 }
 
 // ---- the record rule
 
-// One direction: whether its entries keep the rule, and what the period after the closed ones begins with.
+// One direction: whether its entries keep the rule, and what the period after the closed ones begins with, which `next_start` and
+// `standing_of` promise where the rule is broken too.
 #[derive(Clone, Copy)]
 struct Direction {
     holds: bool,
@@ -225,101 +215,92 @@ fn entry_within(done: bool, most: u64, bound: u32, requirement: i64, schedule: u
     (bound == 0) & ((requirement == 0) & (schedule == 0))
 }
 
-fn entries_within(most: u64, closed: u32, entries: Entries) -> bool
-    ensures { result ≡ within_rule most closed entries }
+fn entries_within(most: u64, closed: u32, entries: &Entries) -> bool
+    ensures { result ≡ within_rule most closed entries.now }
 {
-    let bounds = entries.bounds;
-    let starts = entries.starts;
-    let scheds = entries.scheds;
     let mut holds = true;
-    let mut i: usize = 0;
-    while i < 8 {
+    for i in 0..8 {
         let done = i < closed as usize;
-        holds = holds & entry_within(done, most, bounds[i], starts[i], scheds[i]);
-        i += 1;
+        let bound = entries.bounds[i];
+        holds &= entry_within(done, most, bound, entries.starts[i], entries.scheds[i]);
     }
     holds
 }
 
-fn direction_of(q: Quantities, closed: u32, entries: Entries) -> Direction
-    ensures { result ≡ direction_of q closed entries }
+fn direction_of(q: Quantities, closed: u32, entries: &Entries) -> Direction
+    ensures { result ≡ direction_of q closed entries.now }
 {
-    let bounds = entries.bounds;
-    let starts = entries.starts;
-    let scheds = entries.scheds;
     let most = 500 * DirectionTerms::of(q).quantity;
-    let matched = requirement::match_entries(q, closed, bounds, starts, scheds);
-    let next = matched.next;
+    let matched = requirement::match_entries(
+        q,
+        closed,
+        entries.bounds,
+        entries.starts,
+        entries.scheds,
+    );
     Direction {
         holds: matched.same & entries_within(most, closed, entries),
-        next,
+        next: matched.next,
     }
 }
 
-fn sum_of(bounds: [u32; 8]) -> u64
-    ensures { result ≡ sum bounds }
+// The sum of what eight periods or four traders have; numbers of any bits may pass 32 bits.
+fn sum_of(numbers: &[u32]) -> u64
+    requires { length numbers.now ≤ 8 }
+    ensures { (result ≡ sum numbers.now) × (result ≤ 2 ^ 32 * length numbers.now) }
 {
     let mut total: u64 = 0;
-    let mut i: usize = 0;
-    while i < 8 {
-        total += bounds[i] as u64;
-        i += 1;
+    for n in numbers {
+        total += *n as u64;
     }
     total
 }
 
-// What the traders bought, or sold, together; four numbers of any bits may pass 32 bits.
-fn sum_of_traders(each: [u32; 4]) -> u64
-    ensures { (result ≡ sum each) × (result < 2 ^ 34) }
-{
-    each[0] as u64 + each[1] as u64 + each[2] as u64 + each[3] as u64
-}
+impl Record {
+    // Bought and sold against the most, delivered and taken against the sums of the low and the high bounds.
+    fn totals_hold(&self) -> bool
+        ensures { result ≡ totals_rule self.now }
+    {
+        let most = 10_000_000 * self.closed as u64;
+        (sum_of(&self.totals.bought) <= most)
+            & (sum_of(&self.totals.sold) <= most)
+            & (self.totals.delivered as u64 <= sum_of(&self.low.bounds))
+            & (self.totals.taken as u64 <= sum_of(&self.high.bounds))
+    }
 
-// Bought and sold against the most, delivered and taken against the sums of the low and the high bounds.
-fn totals_hold(closed: u32, totals: Totals, low: [u32; 8], high: [u32; 8]) -> bool
-    ensures { result ≡ (leb (sum totals.bought) (10000000 * closed) && leb (sum totals.sold) (10000000 * closed) && leb totals.delivered (sum low) && leb totals.taken (sum high)) }
-{
-    let most = 10_000_000 * closed as u64;
-    let bought = totals.bought;
-    let sold = totals.sold;
-    (sum_of_traders(bought) <= most)
-        & (sum_of_traders(sold) <= most)
-        & (totals.delivered as u64 <= sum_of(low))
-        & (totals.taken as u64 <= sum_of(high))
+    // The state against the size, and against the start of each direction.
+    fn state_passes(&self, low_start: i64, high_start: i64) -> bool
+        ensures { result ≡ passes_both self.now.state self.now.size low_start high_start }
+    {
+        let state = self.state;
+        let size = self.size;
+        if size < state {
+            return false;
+        }
+        (low_start <= state as i64) & (high_start <= (size - state) as i64)
+    }
+
+    // state = first + bought − sold − delivered + taken
+    fn balances(&self) -> bool
+        ensures { result ≡ eqb (self.now.state + (sum self.now.totals.sold + self.now.totals.delivered)) (self.now.first + sum self.now.totals.bought + self.now.totals.taken) }
+    {
+        let lost = sum_of(&self.totals.sold) + self.totals.delivered as u64;
+        let gained = sum_of(&self.totals.bought) + self.totals.taken as u64;
+        self.state as u64 + lost == self.first as u64 + gained
+    }
 }
 
 // The start after the closed periods, 0 where more than eight are closed.
-pub fn next_start(q: Quantities, closed: u32, entries: Entries) -> i64
-    ensures { result ≡ next_start q closed entries }
+pub fn next_start(q: Quantities, closed: u32, entries: &Entries) -> i64
+    ensures { result ≡ next_start q closed entries.now }
 {
     if 8 < closed {
         return 0;
     }
-    let next = direction_of(q, closed, entries).next;
-    next.start
+    direction_of(q, closed, entries).next.start
 }
 
-// The state against the size, and against the start of each direction.
-fn state_passes(state: u32, size: u32, low_start: i64, high_start: i64) -> bool
-    ensures { result ≡ passes_both state size low_start high_start }
-{
-    if size < state {
-        return false;
-    }
-    (low_start <= state as i64) & (high_start <= (size - state) as i64)
-}
-
-// state = first + bought − sold − delivered + taken
-fn balances(state: u32, first: u32, totals: Totals) -> bool
-    ensures { result ≡ eqb (state + (sum totals.sold + totals.delivered)) (first + sum totals.bought + totals.taken) }
-{
-    let bought = totals.bought;
-    let sold = totals.sold;
-    let lost = sum_of_traders(sold) + totals.delivered as u64;
-    state as u64 + lost == first as u64 + sum_of_traders(bought) + totals.taken as u64
-}
-
-// Whether a record keeps its rule, and what the period after the closed ones begins with in each direction.
+// Whether a record keeps its rule, and what the period after the closed ones begins with in each direction, whether it does or not.
 #[derive(Clone, Copy)]
 pub struct Standing {
     pub holds: bool,
@@ -328,50 +309,27 @@ pub struct Standing {
 }
 
 // The record rule, whatever a record's bits. Each direction's periods are passed once.
-pub fn standing_of(given: Record) -> Standing
-    ensures { result ≡ standing_of given }
+pub fn standing_of(given: &Record) -> Standing
+    ensures { result ≡ standing_of given.now }
 {
     let closed = given.closed;
     let t = given.terms;
-    let curves = given.curves;
-    let low_q = t.low;
-    let high_q = t.high;
-    let low_entries = given.low;
-    let high_entries = given.high;
-    let low_bounds = low_entries.bounds;
-    let high_bounds = high_entries.bounds;
-    let totals = given.totals;
-    let low_direction = direction_of(low_q, closed, low_entries);
-    let high_direction = direction_of(high_q, closed, high_entries);
+    let low_direction = direction_of(t.low, closed, &given.low);
+    let high_direction = direction_of(t.high, closed, &given.high);
     let low = low_direction.next;
     let high = high_direction.next;
     let holds = (closed <= 8)
-        & is_open(opening_answer(t, curves_hold(curves), given.size, given.first))
+        & check_opening(t, given.curves, given.size, given.first).is_ok()
         & low_direction.holds
         & high_direction.holds
-        & totals_hold(closed, totals, low_bounds, high_bounds)
-        & (state_passes(given.state, given.size, low.start, high.start)
-            & balances(given.state, given.first, totals));
+        & given.totals_hold()
+        & (given.state_passes(low.start, high.start) & given.balances());
     Standing { holds, low, high }
 }
 
 // Whether a record keeps the record rule, whatever its bits.
-pub fn record_holds(given: Record) -> bool
-    ensures { result ≡ record_rule given }
+pub fn record_holds(given: &Record) -> bool
+    ensures { result ≡ record_rule given.now }
 {
     standing_of(given).holds
-}
-
-// The number of an opening's answer, 0 for an open record.
-pub fn open_number(answer: OpenAnswer) -> u32
-    ensures { result ≡ number_of {A = Unit} (answer_with answer tt) }
-{
-    match answer {
-        OpenAnswer::Open => 0,
-        OpenAnswer::Quantity => 1,
-        OpenAnswer::Power => 2,
-        OpenAnswer::Curve => 5,
-        OpenAnswer::Size => 3,
-        OpenAnswer::State => 4,
-    }
 }

@@ -1,17 +1,15 @@
 -- Paper 01, "Monitor": one direction of nonzero quantity. Assumes nothing.
-use Rattle.std.specs.Prelude.{false, ◌||◌, List, [], ◌∷◌, map, ℕ, ◌*◌, ltb, eqb, pos, replicate}
+use Rattle.std.specs.Prelude.{◌||◌, List, [], ◌∷◌, map, Result, ℕ, ◌*◌, ltb, eqb, pos}
 use Rattle.std.specs.Int.Signed.{le_z}
-use Rattle.common.specs.Answer.{Answer, refused, given, Cause, cause, checked}
+use Rattle.common.specs.Answer.{Answer, answered, Cause, cause, checked}
 use Rattle.common.specs.Lists.{some_entry}
 use Rattle.common.specs.Periods.{periods_to, of_period}
-use Rattle.terms.specs.declared.Quantities.{Quantities}
-use Rattle.terms.specs.Terms.{Q, REV, ER, above1000}
+use Rattle.terms.specs.Terms.{Quantities, Q, REV, ER, above1000}
 use Rattle.requirement.specs.declared.Row.{Row as Requirement}
 use Rattle.requirement.specs.Requirement.{row_of}
 use Rattle.monitor.specs.declared.Row.{Row}
-use Rattle.monitor.specs.declared.Monitored.{Monitored}
-use Rattle.monitor.specs.declared.MonitorAnswer.{MonitorAnswer}
-use Rattle.monitor.specs.declared.MonitorAnswer.TheVariants.{Rows, Quantity, Bound, Reported}
+use Rattle.monitor.specs.declared.MonitorRefusal.{MonitorRefusal}
+use Rattle.monitor.specs.declared.MonitorRefusal.TheVariants.{Quantity, Bound, Reported}
 
 -- ---- the rows
 
@@ -37,24 +35,6 @@ judged_row REV ER bounds reported i =
 unfoldable pub rows_of : ℕ → ℕ → List ℕ → List ℕ → List Row
 rows_of REV ER bounds reported = map (judged_row REV ER bounds reported) (periods_to 8)
 
--- beside a refusal the rows are zeros
-abbrev pub zero_row : Row
-zero_row =
-    record {
-      period = 0;
-      bound = 0;
-      start = pos 0;
-      end = pos 0;
-      sched = 0;
-      back = 0;
-      left = 0;
-      flag = false;
-      verdict = false;
-    }
-
-abbrev pub zero_rows : List Row
-zero_rows = replicate 8 zero_row
-
 -- ---- the answer
 
 -- 1, 7, 11, each over all eight periods
@@ -68,12 +48,11 @@ monitor_causes q bounds reported =
 unfoldable pub monitoring : Quantities → List ℕ → List ℕ → Answer (List Row)
 monitoring q bounds reported = checked (monitor_causes q bounds reported) (rows_of (REV q) (ER q) bounds reported)
 
--- the number, or what is given, of each case of the code's answer
-abbrev pub answer_with : {A : Type 0} → MonitorAnswer → A → Answer A
-answer_with Rows a = given a
-answer_with Quantity a = refused 1
-answer_with Bound a = refused 7
-answer_with Reported a = refused 11
+-- the number of each of the code's refusals
+abbrev pub refusal_number : MonitorRefusal → ℕ
+refusal_number Quantity = 1
+refusal_number Bound = 7
+refusal_number Reported = 11
 
-abbrev pub answer_of : Monitored → Answer (List Row)
-answer_of m = answer_with m.answer m.rows
+abbrev pub answer_of : Result (List Row) MonitorRefusal → Answer (List Row)
+answer_of = answered refusal_number

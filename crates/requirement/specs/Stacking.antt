@@ -14,8 +14,7 @@
 use Rattle.std.specs.Prelude.{◌≡◌, cond, ℕ, ◌+◌, ◌*◌, ◌-◌, ◌≤◌, ◌<◌, leb, ℤ, pos, ◌+ℤ◌, ◌-ℤ◌, ◌*ℤ◌, length, ◌≤ℤ◌}
 use mathlib.Core.List.{List, map, zip_with}
 use Rattle.common.specs.Periods.{of_period}
-use Rattle.terms.specs.Terms.{REV, ER}
-use Rattle.terms.specs.declared.Quantities.{Quantities}
+use Rattle.terms.specs.Terms.{Quantities, REV, ER}
 use Rattle.requirement.specs.Requirement.{left, sched, start}
 
 -- ---- a contract in one direction, with its bounds from period 1 on

@@ -57,7 +57,7 @@ fn row_of(rev: u64, er: u64, bound: u32, left: u64, back: u64, shortfall: u64) -
     let next = shortfall + bound as u64 - back;
     Row {
         left,
-        sched: common::smaller(due, er),
+        sched: due.min(er),
         back,
         start: less_shortfall(rev, shortfall),
         end: less_shortfall(rev, next),
@@ -160,6 +160,6 @@ pub fn match_entries(
     ensures { result ≡ matched_to (REV q) (ER q) bounds requirements schedules (min closed 8) }
 {
     let t = DirectionTerms::of(q);
-    let count = common::smaller(closed as u64, 8) as usize;
+    let count = (closed as u64).min(8) as usize;
     compare(t.rev, t.er, count, bounds, requirements, schedules)
 }

@@ -1,37 +1,34 @@
 -- `ledger::check_purchase` meets its contract. Assumes nothing.
+use mathlib.Core.Path.{◌∙◌}
 use mir.Facts.{to_z-of_z}
 use Rattle.ledger.specs.Calls.{checking}
-use Rattle.ledger.proofs.NextPeriod.{unusable-is, can-use, low_fits, high_fits, accepts-is}
+use Rattle.ledger.proofs.Usable.{not_usable, can-use}
+use Rattle.ledger.proofs.NextPeriod.{needs_fit, accepts-is}
 use Rattle.ledger.proofs.check_purchase.Goals as goal
 
-pub returns-then-is_unusable : goal.returns-then-is_unusable
+pub returns-in_default : goal.returns-in_default
 unfolding checking
-returns-then-is_unusable c = rw (← unusable-is c.args.given c.standing_of-s.result c.standing_of-s.ensures c.is_unusable.ensures, c.if-is_unusable.true)
+returns-in_default c = rw (not_usable c.args.given.now c.usable_standing.result c.usable_standing.ensures c.in_default.not-Some)
 
-pub is_accepted-requires : goal.is_accepted-requires
-is_accepted-requires c =
-    let r = c.args.given in
-    let s = c.standing_of-s.result in
-    let is = c.standing_of-s.ensures in
-    let usable = can-use r s is c.is_unusable.ensures c.if-is_unusable.false in
-    (low_fits r s is usable, high_fits r s is usable)
+pub of-requires : goal.of-requires
+of-requires c =
+    let u = can-use c.args.given.now c.usable_standing.result c.usable_standing.ensures c.in-Some.standing c.in-Some.is in
+    needs_fit c.args.given.now c.in-Some.standing u.0 u.1
 
-pub returns-then-not-is_accepted : goal.returns-then-not-is_accepted
+pub returns-then-not-accept : goal.returns-then-not-accept
 unfolding checking
-returns-then-not-is_accepted c =
-    let r = c.args.given in
-    let s = c.standing_of-s.result in
-    let is = c.standing_of-s.ensures in
-    let usable = can-use r s is c.is_unusable.ensures c.if-is_unusable.false in
-    let accepted-is = accepts-is r s is usable c.args.purchase (rw (to_z-of_z c.ranges.purchase) at c.is_accepted.ensures) in
-    rw (usable, ← accepted-is, c.if-not-is_accepted.true)
+returns-then-not-accept c =
+    let a = c.args in
+    let n = c.of.result in
+    let u = can-use a.given.now c.usable_standing.result c.usable_standing.ensures c.in-Some.standing c.in-Some.is in
+    let accepted-is = rw (to_z-of_z c.ranges.purchase) at c.accept.ensures ∙ accepts-is a.given.now c.in-Some.standing u.0 u.1 n.low n.high c.of.ensures a.purchase in
+    rw (u.0, ← accepted-is, c.if-not-accept.true)
 
 pub returns : goal.returns
 unfolding checking
 returns c =
-    let r = c.args.given in
-    let s = c.standing_of-s.result in
-    let is = c.standing_of-s.ensures in
-    let usable = can-use r s is c.is_unusable.ensures c.if-is_unusable.false in
-    let accepted-is = accepts-is r s is usable c.args.purchase (rw (to_z-of_z c.ranges.purchase) at c.is_accepted.ensures) in
-    rw (usable, ← accepted-is, c.if-not-is_accepted.false)
+    let a = c.args in
+    let n = c.of.result in
+    let u = can-use a.given.now c.usable_standing.result c.usable_standing.ensures c.in-Some.standing c.in-Some.is in
+    let accepted-is = rw (to_z-of_z c.ranges.purchase) at c.accept.ensures ∙ accepts-is a.given.now c.in-Some.standing u.0 u.1 n.low n.high c.of.ensures a.purchase in
+    rw (u.0, ← accepted-is, c.if-not-accept.false)

@@ -1,15 +1,19 @@
 -- `ledger::close_period` meets its contract, by its causes in their order. Assumes nothing.
-use mathlib.Core.Path.{◌≡◌, refl, sym, ◌∙◌}
+use mathlib.Core.Path.{◌≡◌, refl, sym, ap, ◌∙◌}
 use mathlib.Core.List.{List}
 use mathlib.Core.Bool.{true, false, ◌&&◌}
 use Prim.Native.Nat.{ℕ, ◌-◌}
 use native.Mathlib.Omega.{arith}
 use borrow.Author.Rules.{rules}
 use borrow.Author.Tests.{ltb-false}
-use lib.IntN.{ℤ, pos}
+use lib.IntN.{pos}
 use lib.ListN.{length}
 use mir.Facts.{to_z-of_z}
+use mir.Syntax.{w64}
+use mir.Val.{SFits}
+use Rattle.std.proofs.lemmas.Option.{cond_some}
 use Rattle.common.specs.Answer.{given}
+use Rattle.common.specs.declared.Directions.{Directions}
 use Rattle.common.proofs.Lists.{sum-part}
 use Rattle.common.proofs.Tests.{both_true}
 use Rattle.signed.specs.Sign.{above, within}
@@ -18,170 +22,124 @@ use Rattle.energy.specs.Period.{good_readings, low_bound, high_bound, low_deviat
 use Rattle.energy.proofs.Laws.{bound-most}
 use Rattle.ledger_record.specs.declared.Record.{Record}
 use Rattle.ledger_record.proofs.Kept.{kept, opened}
-use Rattle.ledger.specs.Calls.{unusable, is_trader, accepts, moved, settles, TotalsFit, closing}
+use Rattle.ledger.specs.declared.Closing.{Closing as Asked}
+use Rattle.ledger.specs.Calls.{unusable, is_trader, accepts, moved, settles, TotalsFit, closing_of}
 use Rattle.ledger.proofs.ByTrader.{trader-in}
-use Rattle.ledger.proofs.Closings.{accepted-most, no-bounds, bounds-are, not-settled, settled-to}
-use Rattle.ledger.proofs.NextPeriod.{unusable-is, can-use, low_fits, high_fits, accepts-is}
+use Rattle.ledger.proofs.Closings.{accepted-most, no-bounds, bounds-are, refused-10, refused-19, refused-8, refused-6, refused-9, carried-out}
+use Rattle.ledger.proofs.NextPeriod.{needs_fit, accepts-is}
 use Rattle.ledger.proofs.Settling.{in_bounds}
-use Rattle.ledger.proofs.Usable.{rule-kept, before_eight}
+use Rattle.ledger.proofs.Usable.{rule-kept, before_eight, no_value, not_usable, can-use}
 use Rattle.ledger.proofs.close_period.Goals as goal
 
--- the totals of a usable record stay in range, where 19, 8, 6 and 9 do not hold
-totals_fit : (g : Record) → unusable g ≡ false → length g.low.bounds ≡ 8 → length g.high.bounds ≡ 8
-    → (p d k : ℤ) (xs : List ℕ) (w low high : ℕ) → is_trader w ≡ true → accepts g p ≡ true
-    → good_readings xs ≡ true → low ≡ low_bound g.terms.low g.curves xs → high ≡ high_bound g.terms.high g.curves xs
-    → settles low high g.size d k (moved (pos g.state) p d k) ≡ true → TotalsFit g.totals p d k w
-totals_fit g usable low-long high-long p d k xs w low high trader-good accepted good low-is high_is e =
-    let rule = rule-kept g usable in
-    let kept_here = kept g low-long high-long rule in
-    let f = opened g rule in
-    let n = before_eight g usable in
-    let most = accepted-most g p accepted kept_here.state-most f.size-most in
-    let both-bounds = (both_true (within (pos 0) d (pos low) && within (pos 0) k (pos high)) (within (pos 0) (moved (pos g.state) p d k) (pos g.size)) e).0 in
-    let i = in_bounds low high d k both-bounds in
-    let l = bound-most g.terms.low g.curves f.curves-hold low_deviation xs good in
-    let h = bound-most g.terms.high g.curves f.curves-hold high_deviation xs good in
-    let t = trader-in w trader-good in
-    record {
-      bought_fits = record { trader = t; fits = omega (arith, most, kept_here.bought-most, n, sum-part g.totals.bought (w - 1)) };
-      sold_fits = record { trader = t; fits = omega (arith, most, kept_here.sold-most, n, sum-part g.totals.sold (w - 1)) };
-      delivered_fits = omega (arith, i, kept_here.delivered_most, low-is, l, ltb-false 1000 (Q g.terms.low) f.low-quantity);
-      taken_fits = omega (arith, i, kept_here.taken_most, high_is, h, ltb-false 1000 (Q g.terms.high) f.high-quantity);
-    }
-
-pub returns-then-is_unusable : goal.returns-then-is_unusable
-unfolding closing
-returns-then-is_unusable c =
-    rw (c.refuse.ensures, ← unusable-is c.args.given c.standing_of-s.result c.standing_of-s.ensures c.is_unusable.ensures, c.if-is_unusable.true)
-    (record { answer = refl; beside = refl })
+pub returns-in_default : goal.returns-in_default
+returns-in_default c =
+    let a = c.args.asked in
+    let g = c.args.given.now in
+    let cl = closing_of a c.args.readings.now in
+    rw (refused-10 g cl (not_usable g c.usable_standing.result c.usable_standing.ensures c.in_default.not-Some)) (record { answer = refl; kept = refl })
 
 pub returns-then-not-is_trader : goal.returns-then-not-is_trader
-unfolding closing
 returns-then-not-is_trader c =
-    let a = c.args in
-    let g = a.given in
-    let s = c.standing_of-s.result in
-    let is = c.standing_of-s.ensures in
-    let usable = can-use g s is c.is_unusable.ensures c.if-is_unusable.false in
-    rw (c.refuse-then-not-is_trader.ensures, usable, ← c.is_trader.ensures, c.if-not-is_trader.true) (record { answer = refl; beside = refl })
+    let a = c.args.asked in
+    let g = c.args.given.now in
+    let cl = closing_of a c.args.readings.now in
+    let s = c.in-Some.standing in
+    let u = can-use g c.usable_standing.result c.usable_standing.ensures s c.in-Some.is in
+    rw (refused-19 g cl u.0 (sym c.is_trader.ensures ∙ c.if-not-is_trader.true)) (record { answer = refl; kept = refl })
 
-pub is_accepted-requires : goal.is_accepted-requires
-is_accepted-requires c =
-    let a = c.args in
-    let g = a.given in
-    let s = c.standing_of-s.result in
-    let is = c.standing_of-s.ensures in
-    let usable = can-use g s is c.is_unusable.ensures c.if-is_unusable.false in
-    (low_fits g s is usable, high_fits g s is usable)
+pub of-requires : goal.of-requires
+of-requires c =
+    let g = c.args.given.now in
+    let s = c.in-Some.standing in
+    let u = can-use g c.usable_standing.result c.usable_standing.ensures s c.in-Some.is in
+    needs_fit g s u.0 u.1
 
-pub returns-then-not-is_accepted : goal.returns-then-not-is_accepted
-unfolding closing
-returns-then-not-is_accepted c =
-    let a = c.args in
-    let g = a.given in
-    let s = c.standing_of-s.result in
-    let is = c.standing_of-s.ensures in
-    let usable = can-use g s is c.is_unusable.ensures c.if-is_unusable.false in
+pub returns-then-not-accept : goal.returns-then-not-accept
+returns-then-not-accept c =
+    let a = c.args.asked in
+    let g = c.args.given.now in
+    let cl = closing_of a c.args.readings.now in
+    let s = c.in-Some.standing in
+    let u = can-use g c.usable_standing.result c.usable_standing.ensures s c.in-Some.is in
     let trader-good = sym c.is_trader.ensures ∙ c.if-not-is_trader.false in
-    let accepted-is = accepts-is g s is usable a.purchase (rw (to_z-of_z c.ranges.purchase) at c.is_accepted.ensures) in
-    rw (c.refuse-then-not-is_accepted.ensures, usable, trader-good, ← accepted-is, c.if-not-is_accepted.true) (record { answer = refl; beside = refl })
+    let purchase-fits : SFits w64 a.purchase = search rules in
+    let accepted-is = rw (to_z-of_z purchase-fits) at c.accept.ensures ∙ accepts-is g s u.0 u.1 c.of.result.low c.of.result.high c.of.ensures a.purchase in
+    rw (refused-8 g cl u.0 trader-good (sym accepted-is ∙ c.if-not-accept.true)) (record { answer = refl; kept = refl })
 
-pub returns-in_default : goal.returns-in_default
-unfolding closing
-returns-in_default c =
-    let a = c.args in
-    let g = a.given in
-    let s = c.standing_of-s.result in
-    let is = c.standing_of-s.ensures in
-    let usable = can-use g s is c.is_unusable.ensures c.if-is_unusable.false in
+pub returns-in_default-period_energy : goal.returns-in_default-period_energy
+returns-in_default-period_energy c =
+    let a = c.args.asked in
+    let g = c.args.given.now in
+    let cl = closing_of a c.args.readings.now in
+    let s = c.in-Some.standing in
+    let u = can-use g c.usable_standing.result c.usable_standing.ensures s c.in-Some.is in
     let trader-good = sym c.is_trader.ensures ∙ c.if-not-is_trader.false in
-    let accepted-is = accepts-is g s is usable a.purchase (rw (to_z-of_z c.ranges.purchase) at c.is_accepted.ensures) in
-    let accepted = sym accepted-is ∙ c.if-not-is_accepted.false in
-    let f = opened g (rule-kept g usable) in
-    let bad =
-    no-bounds g.terms.low g.terms.high g.curves a.readings.now f.low-quantity f.high-quantity f.curves-hold c.period_energy-bounds.result
-    c.period_energy-bounds.ensures c.in_default.not-Bounds
-    in
-    rw (c.refuse-in_default.ensures, usable, trader-good, accepted, bad) (record { answer = refl; beside = refl })
+    let purchase-fits : SFits w64 a.purchase = search rules in
+    let accepted-is = rw (to_z-of_z purchase-fits) at c.accept.ensures ∙ accepts-is g s u.0 u.1 c.of.result.low c.of.result.high c.of.ensures a.purchase in
+    let accepted = sym accepted-is ∙ c.if-not-accept.false in
+    let f = opened g (rule-kept g u.0) in
+    let bad = no-bounds g.terms.low g.terms.high g.curves c.args.readings.now f.low-quantity f.high-quantity f.curves-hold c.period_energy.result c.period_energy.ensures c.in_default-period_energy.not-Ok in
+    rw (refused-6 g cl u.0 trader-good accepted bad) (record { answer = refl; kept = refl })
 
 pub returns-in_default-settle : goal.returns-in_default-settle
-unfolding closing
 returns-in_default-settle c =
-    let a = c.args in
-    let g = a.given in
-    let s = c.standing_of-s.result in
-    let is = c.standing_of-s.ensures in
-    let usable = can-use g s is c.is_unusable.ensures c.if-is_unusable.false in
+    let a = c.args.asked in
+    let g = c.args.given.now in
+    let cl = closing_of a c.args.readings.now in
+    let s = c.in-Some.standing in
+    let u = can-use g c.usable_standing.result c.usable_standing.ensures s c.in-Some.is in
     let trader-good = sym c.is_trader.ensures ∙ c.if-not-is_trader.false in
-    let accepted-is = accepts-is g s is usable a.purchase (rw (to_z-of_z c.ranges.purchase) at c.is_accepted.ensures) in
-    let accepted = sym accepted-is ∙ c.if-not-is_accepted.false in
-    let f = opened g (rule-kept g usable) in
-    let b =
-    bounds-are g.terms.low g.terms.high g.curves a.readings.now f.low-quantity f.high-quantity f.curves-hold c.period_energy-bounds.result
-    c.period_energy-bounds.ensures c.in-Bounds.low c.in-Bounds.high c.in-Bounds.is
-    in
-    let new = moved (pos g.state) a.purchase a.delivered a.taken in
-    let test = settles c.in-Bounds.low c.in-Bounds.high g.size a.delivered a.taken new in
-    let settle_is = rw (to_z-of_z c.ranges.purchase, to_z-of_z c.ranges.delivered, to_z-of_z c.ranges.taken) at c.settle.ensures in
-    rw (
-      c.refuse-in_default-settle.ensures,
-      usable,
-      trader-good,
-      accepted,
-      b.good,
-      ← b.low-is,
-      ← b.high_is,
-      not-settled test (above new) c.settle.result settle_is c.in_default-settle.is,
-    )
-    (record { answer = refl; beside = refl })
+    let purchase-fits : SFits w64 a.purchase = search rules in
+    let accepted-is = rw (to_z-of_z purchase-fits) at c.accept.ensures ∙ accepts-is g s u.0 u.1 c.of.result.low c.of.result.high c.of.ensures a.purchase in
+    let accepted = sym accepted-is ∙ c.if-not-accept.false in
+    let f = opened g (rule-kept g u.0) in
+    let b = bounds-are g.terms.low g.terms.high g.curves c.args.readings.now f.low-quantity f.high-quantity f.curves-hold c.period_energy.result c.period_energy.ensures c.in-Ok.bounds c.in-Ok.is in
+    let settle_is = rw b.1 at c.settle.ensures in
+    rw (refused-9 g cl u.0 trader-good accepted b.0 (no_value _ _ c.settle.result settle_is c.in_default-settle.not-Some)) (record { answer = refl; kept = refl })
 
-pub closed_record-requires : goal.closed_record-requires
-closed_record-requires c =
-    let a = c.args in
-    let g = a.given in
-    let s = c.standing_of-s.result in
-    let is = c.standing_of-s.ensures in
-    let usable = can-use g s is c.is_unusable.ensures c.if-is_unusable.false in
+pub carry_out-requires : goal.carry_out-requires
+carry_out-requires c =
+    let a = c.args.asked in
+    let g = c.args.given.now in
+    let s = c.in-Some.standing in
+    let u = can-use g c.usable_standing.result c.usable_standing.ensures s c.in-Some.is in
     let trader-good = sym c.is_trader.ensures ∙ c.if-not-is_trader.false in
-    let accepted-is = accepts-is g s is usable a.purchase (rw (to_z-of_z c.ranges.purchase) at c.is_accepted.ensures) in
-    let accepted = sym accepted-is ∙ c.if-not-is_accepted.false in
-    let f = opened g (rule-kept g usable) in
-    let b =
-    bounds-are g.terms.low g.terms.high g.curves a.readings.now f.low-quantity f.high-quantity f.curves-hold c.period_energy-bounds.result
-    c.period_energy-bounds.ensures c.in-Bounds.low c.in-Bounds.high c.in-Bounds.is
-    in
+    let purchase-fits : SFits w64 a.purchase = search rules in
+    let accepted-is = rw (to_z-of_z purchase-fits) at c.accept.ensures ∙ accepts-is g s u.0 u.1 c.of.result.low c.of.result.high c.of.ensures a.purchase in
+    let accepted = sym accepted-is ∙ c.if-not-accept.false in
+    let f = opened g (rule-kept g u.0) in
+    let b = bounds-are g.terms.low g.terms.high g.curves c.args.readings.now f.low-quantity f.high-quantity f.curves-hold c.period_energy.result c.period_energy.ensures c.in-Ok.bounds c.in-Ok.is in
+    let settle_is = rw b.1 at c.settle.ensures in
     let new = moved (pos g.state) a.purchase a.delivered a.taken in
-    let test = settles c.in-Bounds.low c.in-Bounds.high g.size a.delivered a.taken new in
-    let settle_is = rw (to_z-of_z c.ranges.purchase, to_z-of_z c.ranges.delivered, to_z-of_z c.ranges.taken) at c.settle.ensures in
-    let t = settled-to test (above new) c.in-To.new c.settle.result settle_is c.in-To.is in
-    let low-long : length g.low.bounds ≡ 8 = search rules in
-    let high-long : length g.high.bounds ≡ 8 = search rules in
-    rw (to_z-of_z c.ranges.purchase, to_z-of_z c.ranges.delivered, to_z-of_z c.ranges.taken)
+    let test = settles (low_bound g.terms.low g.curves c.args.readings.now) (high_bound g.terms.high g.curves c.args.readings.now) g.size a.delivered a.taken new in
+    let t = cond_some test (above new) c.in-Some-settle.new (sym settle_is ∙ c.in-Some-settle.is) in
+    rw (ap (λ (d : Directions ℕ). d.low) b.1, ap (λ (d : Directions ℕ). d.high) b.1)
     (record {
-      period_open = before_eight g usable;
-      stands = is;
-      totals_fit = totals_fit g usable low-long high-long a.purchase a.delivered a.taken a.readings.now a.trader c.in-Bounds.low c.in-Bounds.high trader-good accepted b.good b.low-is b.high_is t.0;
+      usable = u.0;
+      stands = u.1;
+      trader = trader-good;
+      accepted = accepted;
+      low_most = bound-most g.terms.low g.curves f.curves-hold low_deviation c.args.readings.now b.0;
+      high_most = bound-most g.terms.high g.curves f.curves-hold high_deviation c.args.readings.now b.0;
+      settled = t.0;
     })
 
 pub returns : goal.returns
-unfolding closing
 returns c =
-    let a = c.args in
-    let g = a.given in
-    let s = c.standing_of-s.result in
-    let is = c.standing_of-s.ensures in
-    let usable = can-use g s is c.is_unusable.ensures c.if-is_unusable.false in
+    let a = c.args.asked in
+    let g = c.args.given.now in
+    let cl = closing_of a c.args.readings.now in
+    let s = c.in-Some.standing in
+    let u = can-use g c.usable_standing.result c.usable_standing.ensures s c.in-Some.is in
     let trader-good = sym c.is_trader.ensures ∙ c.if-not-is_trader.false in
-    let accepted-is = accepts-is g s is usable a.purchase (rw (to_z-of_z c.ranges.purchase) at c.is_accepted.ensures) in
-    let accepted = sym accepted-is ∙ c.if-not-is_accepted.false in
-    let f = opened g (rule-kept g usable) in
-    let b =
-    bounds-are g.terms.low g.terms.high g.curves a.readings.now f.low-quantity f.high-quantity f.curves-hold c.period_energy-bounds.result
-    c.period_energy-bounds.ensures c.in-Bounds.low c.in-Bounds.high c.in-Bounds.is
-    in
+    let purchase-fits : SFits w64 a.purchase = search rules in
+    let accepted-is = rw (to_z-of_z purchase-fits) at c.accept.ensures ∙ accepts-is g s u.0 u.1 c.of.result.low c.of.result.high c.of.ensures a.purchase in
+    let accepted = sym accepted-is ∙ c.if-not-accept.false in
+    let f = opened g (rule-kept g u.0) in
+    let b = bounds-are g.terms.low g.terms.high g.curves c.args.readings.now f.low-quantity f.high-quantity f.curves-hold c.period_energy.result c.period_energy.ensures c.in-Ok.bounds c.in-Ok.is in
+    let settle_is = rw b.1 at c.settle.ensures in
     let new = moved (pos g.state) a.purchase a.delivered a.taken in
-    let test = settles c.in-Bounds.low c.in-Bounds.high g.size a.delivered a.taken new in
-    let settle_is = rw (to_z-of_z c.ranges.purchase, to_z-of_z c.ranges.delivered, to_z-of_z c.ranges.taken) at c.settle.ensures in
-    let t = settled-to test (above new) c.in-To.new c.settle.result settle_is c.in-To.is in
-    let made = rw (to_z-of_z c.ranges.purchase, to_z-of_z c.ranges.delivered, to_z-of_z c.ranges.taken, t.1) at c.closed_record.ensures in
-    rw (usable, trader-good, accepted, b.good, ← b.low-is, ← b.high_is, t.0) (record { answer = λ i. given (made i); beside = made })
+    let test = settles (low_bound g.terms.low g.curves c.args.readings.now) (high_bound g.terms.high g.curves c.args.readings.now) g.size a.delivered a.taken new in
+    let t = cond_some test (above new) c.in-Some-settle.new (sym settle_is ∙ c.in-Some-settle.is) in
+    let made = rw (b.1, ← t.1) at c.carry_out.ensures in
+    rw (carried-out g cl u.0 trader-good accepted b.0 t.0) (record { answer = ap given made; kept = made })

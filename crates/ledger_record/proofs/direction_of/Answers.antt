@@ -11,4 +11,4 @@ pub returns : goal.returns
 unfolding matched_to
 returns c =
     let a = c.args in
-    rw (c.entries_within.ensures, c.match_entries-matched.ensures, c.of-most.ensures, in_parts a.q a.closed a.entries)
+    rw (c.entries_within.ensures, c.match_entries-matched.ensures, c.of-most.ensures, in_parts a.q a.closed a.entries.now)

@@ -14,7 +14,7 @@ loop-i-init c = begin _ _ _ _ _
 
 pub loop-i-preserved : goal.loop-i-preserved
 loop-i-preserved c =
-    let fits : SFits w64 (get_or c.args.entries.starts c.loop-i.i (pos 0)) = search rules in
+    let fits : SFits w64 (get_or c.args.entries.now.starts c.loop-i.i (pos 0)) = search rules in
     step _ _ _ _ _ c.loop-i.invariant c.loop-i-test.true (rw (to_z-of_z fits) at c.entry_within-holds.ensures)
 
 pub returns : goal.returns

@@ -18,4 +18,4 @@ returns c =
     let a = c.args in
     to_z-of_z {w = w64} {z = c.direction_of.result.next.start} (search rules)
     ∙ ap (λ (x : Direction). x.next.start) c.direction_of.ensures
-    ∙ sym (next-start-is a.q a.closed a.entries c.if-closed-gt8.false)
+    ∙ sym (next-start-is a.q a.closed a.entries.now c.if-closed-gt8.false)

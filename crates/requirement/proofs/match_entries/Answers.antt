@@ -4,7 +4,7 @@ use borrow.Author.Rules.{rules}
 use Rattle.requirement.proofs.match_entries.Goals as goal
 
 pub compare-requires : goal.compare-requires
-compare-requires c = (rw c.of-t.ensures (search rules), omega (arith, c.smaller-count.ensures))
+compare-requires c = (rw c.of-t.ensures (search rules), omega (arith, c.min-count.ensures))
 
 pub returns : goal.returns
-returns c = rw (c.of-t.ensures, c.smaller-count.ensures) at c.compare.ensures
+returns c = rw (c.of-t.ensures, c.min-count.ensures) at c.compare.ensures

@@ -12,7 +12,7 @@ returns c =
     let d = c.less_shortfall in
     let a = c.args in
     rw (
-      c.smaller.ensures,
+      c.min.ensures,
       to_z-of_z {z = d.result} (sfits_of d.type_inv),
       to_z-of_z {z = d2.result} (sfits_of d2.type_inv),
       d.ensures,

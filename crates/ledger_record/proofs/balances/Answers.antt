@@ -1,5 +1,0 @@
--- `ledger_record::balances` meets its contract. Assumes nothing.
-use Rattle.ledger_record.proofs.balances.Goals as goal
-
-pub returns : goal.returns
-returns c = rw (c.sum_of_traders-2.ensures.0, c.sum_of_traders.ensures.0)
