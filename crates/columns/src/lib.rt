@@ -55,25 +55,15 @@ fn next(f: Field, b: u8) -> Field
     }
 }
 
-// The number in the first nine columns; of a text that ends before them, in those that it has.
-fn read_number(text: &[u8]) -> Field
-    ensures { result ≡ Number.number (take 9 text.now) }
-{
-    let mut f = Field::Blank;
-    for b in text.iter().take(9) {
-        f = next(f, *b);
-    }
-    f
-}
-
 // The number in the nine columns of a line from `at` on; of a line that ends before them, in those that it has.
 pub fn number_at(line: &[u8], at: usize) -> Field
     ensures { result ≡ number_at at line.now }
 {
-    if line.len() <= at {
-        return Field::Blank;
+    let mut f = Field::Blank;
+    for b in line.iter().skip(at).take(9) {
+        f = next(f, *b);
     }
-    read_number(&line[at..])
+    f
 }
 
 // ---- printing
