@@ -2,12 +2,12 @@
 ghost use Rattle.std.specs.Prelude.{◌≡◌, ℕ, ◌+◌, ◌-◌, ◌*◌, ◌^◌, min, length};
 ghost use Rattle.energy.specs.Curve.{points_of, between, share_at, response_to, response};
 ghost use Rattle.energy.specs.Containment.{response_by_table};
-ghost use Rattle.energy.specs.Period.{high_deviation, responses, BeforeReadings};
+ghost use Rattle.energy.specs.Period.{high_deviation, responses};
 ghost use Rattle.energy.specs.Table.{largest_deviations, Added, wholes, FillFits, SegmentFits, ServiceFits, TableFits, DirectionFits, table_sums, Covered, response_sums, WithinRange};
 
 use crate::containment::response_by_entry;
 use crate::curve::{Curve, Curves, Point};
-use crate::period::Way;
+use crate::period::{Accepted, Way};
 use common::Directions;
 use terms::Quantities;
 
@@ -159,14 +159,15 @@ fn sum_table(lows: &[u32], highs: &[u32], readings: &[u16]) -> Directions<u64>
 
 // The sums of both directions' responses, by a table of each up to its largest deviation.
 pub(crate) fn sum_responses<W: Way>(
-    quantities: Directions<Quantities>,
-    curves: Curves,
+    accepted: Accepted,
     most: Directions<u16>,
     readings: &[u16],
 ) -> Directions<u64>
-    requires { BeforeReadings quantities.low quantities.high curves × WithinRange most readings.now }
-    ensures { result ≡ response_sums quantities.low quantities.high curves readings.now }
+    requires { WithinRange most readings.now }
+    ensures { result ≡ response_sums accepted.quantities.low accepted.quantities.high accepted.curves readings.now }
 {
+    let quantities = accepted.quantities;
+    let curves = accepted.curves;
     let mut lows = [0u32; 3001];
     let mut highs = [0u32; 3001];
     fill_direction::<W>(quantities.low, curves, most.low, &mut lows);
