@@ -53,6 +53,6 @@ pub fn interpolated_table() -> [u32; 501]
     ensures { table_rule result ≡ true }
 {
     let mut table = [0u32; 501];
-    fill_by_steps(11100, containment_curve(), 501, &mut table);
+    fill_by_steps(11100, containment_curve(), &mut table);
     table
 }
