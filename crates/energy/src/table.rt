@@ -152,15 +152,13 @@ fn sum_table(lows: &[u32], highs: &[u32], readings: &[u16]) -> Directions<u64>
 {
     let mut low: u64 = 0;
     let mut high: u64 = 0;
-    let mut i = readings.len();
-    // `low` and `high` are the sums from place i on, `sums_from i` (specs/Table): the invariant `Running` (proofs/Backward)
-    while 0 < i {
-        let reading = readings[i - 1] as u32;
+    // `low` and `high` are the sums from the present reading's place on, `sums_from` (specs/Table): the invariant `Running` (proofs/Backward)
+    for reading in readings.iter().rev() {
+        let reading = u32::from(*reading);
         let above = high_deviation(reading);
         let below = 50000 + above - reading;
-        low += lows[below as usize] as u64;
-        high += highs[above as usize] as u64;
-        i -= 1;
+        low += u64::from(lows[below as usize]);
+        high += u64::from(highs[above as usize]);
     }
     Directions { low, high }
 }

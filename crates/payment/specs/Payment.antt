@@ -1,21 +1,14 @@
 -- Paper 02, No. 8: real-time payment, source document 003, paragraph 17. `adjustment` is the Minimum Adjustment Price; both prices are
 -- in pence per MW and hour, K and F in thousandths. Assumes nothing.
-use Rattle.std.specs.Prelude.{◌≡◌, Bool, not, cond, ◌&&◌, List, [], ◌∷◌, map, ℕ, suc, ◌*◌, ◌≤◌, max, leb, ltb, ℤ, pos, ◌-ℤ◌, take, ◌≤ℤ◌}
-use Rattle.common.specs.Answer.{Answer, refused, given, Cause, cause, checked}
+use Rattle.std.specs.Prelude.{◌≡◌, Bool, not, cond, ◌&&◌, List, [], ◌∷◌, map, ℕ, suc, ◌*◌, ◌≤◌, max, leb, ltb, ℤ, pos, ◌-ℤ◌, length, ◌≤ℤ◌, Option, Some, None, Result, Ok, Err}
+use Rattle.common.specs.Answer.{Answer, given, Cause, cause, checked, answered}
 use Rattle.common.specs.Lists.{sum, every}
 use Rattle.payment.specs.Exact.{Exact, ratio, minus, times, total, rounded}
 use Rattle.payment.specs.declared.Piece.{Piece}
-use Rattle.payment.specs.declared.Pieces.{Pieces}
-use Rattle.payment.specs.declared.Measured.{Measured}
-use Rattle.payment.specs.declared.Measured.TheVariants.{Work, Over}
-use Rattle.payment.specs.declared.PaymentAnswer.{PaymentAnswer}
-use Rattle.payment.specs.declared.PaymentAnswer.TheVariants as answers
+use Rattle.payment.specs.declared.PaymentRefusal.{PaymentRefusal}
+use Rattle.payment.specs.declared.PaymentRefusal.TheVariants.{Price, AdjustmentPrice, K, F, Pieces}
 
 -- ---- the pieces
-
--- pieces past the count are ignored
-abbrev pub pieces_of : Pieces → List Piece
-pieces_of ps = take ps.count ps.pieces
 
 -- kW, at most 1,000,000
 abbrev pub quantity_rule : Piece → Bool
@@ -25,8 +18,8 @@ abbrev pub seconds : List Piece → ℕ
 seconds ps = sum (map (λ (p : Piece). p.duration) ps)
 
 -- up to 64 pieces, 1,800 seconds at most together
-unfoldable pub pieces_rule : Pieces → Bool
-pieces_rule ps = leb ps.count 64 && every quantity_rule (pieces_of ps) && leb (seconds (pieces_of ps)) 1800
+unfoldable pub pieces_rule : List Piece → Bool
+pieces_rule ps = leb (length ps) 64 && every quantity_rule ps && leb (seconds ps) 1800
 
 -- ---- the amount, in pence
 
@@ -49,7 +42,7 @@ amount price adjustment k f ps = rounded (total (map (piece_amount price adjustm
 -- ---- the answer
 
 -- 20: any figure or count over its limit, in the order price, adjustment price, K, F, pieces
-unfoldable pub payment_causes : ℕ → ℕ → ℕ → ℕ → Pieces → List Cause
+unfoldable pub payment_causes : ℕ → ℕ → ℕ → ℕ → List Piece → List Cause
 payment_causes price adjustment k f ps =
     cause 20 (ltb 10000 price)
     ∷ cause 20 (ltb 10000 adjustment)
@@ -58,26 +51,24 @@ payment_causes price adjustment k f ps =
     ∷ cause 20 (not (pieces_rule ps))
     ∷ []
 
-unfoldable pub paying : ℕ → ℕ → ℕ → ℕ → Pieces → Answer ℤ
-paying price adjustment k f ps = checked (payment_causes price adjustment k f ps) (amount price adjustment k f (pieces_of ps))
+unfoldable pub paying : ℕ → ℕ → ℕ → ℕ → List Piece → Answer ℤ
+paying price adjustment k f ps = checked (payment_causes price adjustment k f ps) (amount price adjustment k f ps)
 
--- the number, or the amount, of each case of the code's answer
-abbrev pub answer_of : PaymentAnswer → Answer ℤ
-answer_of (answers.Amount pence) = given pence
-answer_of answers.Price = refused 20
-answer_of answers.AdjustmentPrice = refused 20
-answer_of answers.K = refused 20
-answer_of answers.F = refused 20
-answer_of answers.Pieces = refused 20
+-- the number of each of the code's refusals
+abbrev pub refusal_number : PaymentRefusal → ℕ
+refusal_number refusal = 20
+
+abbrev pub answer_of : Result ℤ PaymentRefusal → Answer ℤ
+answer_of = answered refusal_number
 
 -- which of the causes it is, counted from 1; 0 for an amount
-abbrev pub cause_of : PaymentAnswer → ℕ
-cause_of (answers.Amount pence) = 0
-cause_of answers.Price = 1
-cause_of answers.AdjustmentPrice = 2
-cause_of answers.K = 3
-cause_of answers.F = 4
-cause_of answers.Pieces = 5
+abbrev pub cause_of : Result ℤ PaymentRefusal → ℕ
+cause_of (Ok pence) = 0
+cause_of (Err Price) = 1
+cause_of (Err AdjustmentPrice) = 2
+cause_of (Err K) = 3
+cause_of (Err F) = 4
+cause_of (Err Pieces) = 5
 
 -- the place of the first cause that holds, counted from n; 0 where none does
 unfoldable pub first_from : ℕ → List Cause → ℕ
@@ -91,11 +82,11 @@ unfoldable pub gross : ℕ → List Piece → ℤ
 gross price ps = rounded (total (map (worth price) ps))
 
 -- `payment-laws` in proofs/Laws.antt proves it for every price, adjustment price, K, F and pieces
-pub record PaymentLaws (price adjustment k f : ℕ) (ps : Pieces) : Type 0 where
+pub record PaymentLaws (price adjustment k f : ℕ) (ps : List Piece) : Type 0 where
   -- it is never more than price times quantity and time, rounded alike
-  pub never_more : (pence : ℤ) → paying price adjustment k f ps ≡ given pence → pence ≤ℤ gross price (pieces_of ps)
+  pub never_more : (pence : ℤ) → paying price adjustment k f ps ≡ given pence → pence ≤ℤ gross price ps
   -- an empty list pays 0
-  pub empty : price ≤ 10000 → adjustment ≤ 10000 → k ≤ 1000 → f ≤ 1000 → ps.count ≡ 0 → paying price adjustment k f ps ≡ given (pos 0)
+  pub empty : price ≤ 10000 → adjustment ≤ 10000 → k ≤ 1000 → f ≤ 1000 → ps ≡ [] → paying price adjustment k f ps ≡ given (pos 0)
 
 -- ---- what the private functions make
 
@@ -103,8 +94,8 @@ pub record PaymentLaws (price adjustment k f : ℕ) (ps : Pieces) : Type 0 where
 abbrev pub work : Piece → ℕ
 work p = p.quantity * p.duration
 
-unfoldable pub measured_of : Pieces → Measured
-measured_of ps = cond (pieces_rule ps) (Work (sum (map work (pieces_of ps)))) Over
+unfoldable pub measured_of : List Piece → Option ℕ
+measured_of ps = cond (pieces_rule ps) (Some (sum (map work ps))) None
 
 -- in parts of a penny: a MW has 1,000 kW, an hour 3,600 seconds, and K and F are counted in thousandths
 abbrev pub parts_less : ℕ → ℕ → Exact

@@ -1,10 +1,11 @@
 // Real-time payment: what a period's pieces of quantity and time pay, in pence.
 #![tactic(auto)]
 
-ghost use Rattle.std.specs.Prelude.{◌≡◌, ◌*◌, ◌≤◌, max};
-ghost use Rattle.common.specs.Answer.{number_of};
+ghost use Rattle.std.specs.Prelude.{◌≡◌, ◌*◌, ◌≤◌};
 ghost use Rattle.payment.specs.Exact.{rounded};
-ghost use Rattle.payment.specs.Payment.{measured_of, parts_less, answer_of, cause_of, first_from, payment_causes, paying};
+ghost use Rattle.payment.specs.Payment.{measured_of, parts_less, refusal_number, answer_of, cause_of, first_from, payment_causes, paying};
+
+use common::Refusal;
 
 // kW, for a number of seconds.
 #[derive(Clone, Copy)]
@@ -13,30 +14,17 @@ pub struct Piece {
     pub duration: u32,
 }
 
-// Pieces past the count are ignored.
-#[derive(Clone, Copy)]
-pub struct Pieces {
-    pub count: usize,
-    pub pieces: [Piece; 64],
-}
-
-#[derive(Clone, Copy)]
-pub enum PaymentAnswer {
-    // Whole pence; below 0 the provider pays.
-    Amount(i64),
-    // Refusal 20, and what is over its limit.
+// Refusal 20, and what is over its limit.
+#[derive(Clone, Copy, Debug, PartialEq, Eq)]
+pub enum PaymentRefusal {
+    // A price above 10,000.
     Price,
     AdjustmentPrice,
+    // K or F above 1.
     K,
     F,
+    // More than 64 pieces, one above 1,000,000 kW, or more than 1,800 seconds together.
     Pieces,
-}
-
-// The kW times seconds of all pieces, or that the pieces break their rule.
-#[derive(Clone, Copy)]
-enum Measured {
-    Work(u64),
-    Over,
 }
 
 // 1, where K times F is counted.
@@ -50,35 +38,27 @@ const HALF: u64 = 1_800_000_000_000;
 // A part less than half a penny.
 const UNDER_HALF: u64 = 1_799_999_999_999;
 
-fn greater(a: u64, b: u64) -> u64
-    ensures { result ≡ max a b }
+// The kW times seconds of all pieces; none where the pieces break their rule.
+fn measure(pieces: &[Piece]) -> Option<u64>
+    ensures { result ≡ measured_of pieces.now }
 {
-    if a < b { b } else { a }
-}
-
-fn measure(ps: Pieces) -> Measured
-    ensures { result ≡ measured_of ps }
-{
-    let count = ps.count;
+    let count = pieces.len();
     if 64 < count {
-        return Measured::Over;
+        return None;
     }
     let mut seconds: u64 = 0;
     let mut work: u64 = 0;
-    let mut i: usize = 0;
-    while i < count {
-        let p = ps.pieces[i];
+    for p in pieces {
         if 1_000_000 < p.quantity {
-            return Measured::Over;
+            return None;
         }
         seconds += p.duration as u64;
         work += p.quantity as u64 * p.duration as u64;
-        i += 1;
     }
     if 1_800 < seconds {
-        return Measured::Over;
+        return None;
     }
-    Measured::Work(work)
+    Some(work)
 }
 
 // What a kW and second earns less what goes from it, in parts of a penny, times kW and seconds: in whole pence, a half upward. One
@@ -87,47 +67,48 @@ fn pence(earned: u64, lost: u64, work: u64) -> i64
     requires { (earned ≤ 10000000000) × (lost ≤ 10000000000) × (work ≤ 1800000000) }
     ensures { result ≡ rounded (parts_less (earned * work) (lost * work)) }
 {
-    let both = common::smaller(earned, lost);
+    let both = earned.min(lost);
     let gain = (earned - both) * work;
     let loss = (lost - both) * work;
     signed::difference((gain + HALF) / PENNY, (loss + UNDER_HALF) / PENNY)
 }
 
-// The payment of a period: refusal 20 in the order price, adjustment price, K, F, pieces.
-pub fn payment(price: u32, adjustment: u32, k: u32, f: u32, pieces: Pieces) -> PaymentAnswer
-    ensures answer { answer_of result ≡ paying price adjustment k f pieces }
-    ensures cause { cause_of result ≡ first_from 1 (payment_causes price adjustment k f pieces) }
+// The payment of a period in whole pence; below 0 the provider pays. Refusal 20 in the order price, adjustment price, K, F, pieces.
+#[tactic(auto, unfolding(crate::specs::Payment::paying, crate::specs::Payment::payment_causes, crate::specs::Payment::first_from))]
+pub fn payment(
+    price: u32,
+    adjustment: u32,
+    k: u32,
+    f: u32,
+    pieces: &[Piece],
+) -> Result<i64, PaymentRefusal>
+    ensures answer { answer_of result ≡ paying price adjustment k f pieces.now }
+    ensures cause { cause_of result ≡ first_from 1 (payment_causes price adjustment k f pieces.now) }
 {
     if 10_000 < price {
-        return PaymentAnswer::Price;
+        return Err(PaymentRefusal::Price);
     }
     if 10_000 < adjustment {
-        return PaymentAnswer::AdjustmentPrice;
+        return Err(PaymentRefusal::AdjustmentPrice);
     }
     if 1_000 < k {
-        return PaymentAnswer::K;
+        return Err(PaymentRefusal::K);
     }
     if 1_000 < f {
-        return PaymentAnswer::F;
+        return Err(PaymentRefusal::F);
     }
-    let Measured::Work(work) = measure(pieces) else {
-        return PaymentAnswer::Pieces;
+    let Some(work) = measure(pieces) else {
+        return Err(PaymentRefusal::Pieces);
     };
     let short = MILLION - k as u64 * f as u64;
-    let most = greater(price as u64, adjustment as u64);
-    PaymentAnswer::Amount(pence(price as u64 * MILLION, most * short, work))
+    let most = price.max(adjustment) as u64;
+    Ok(pence(price as u64 * MILLION, most * short, work))
 }
 
-// The number of an answer, 0 for an amount.
-pub fn number(answer: PaymentAnswer) -> u32
-    ensures { result ≡ number_of (answer_of answer) }
-{
-    match answer {
-        PaymentAnswer::Amount(_) => 0,
-        PaymentAnswer::Price => 20,
-        PaymentAnswer::AdjustmentPrice => 20,
-        PaymentAnswer::K => 20,
-        PaymentAnswer::F => 20,
-        PaymentAnswer::Pieces => 20,
+impl Refusal for PaymentRefusal {
+    ghost refusal = { refusal_number };
+
+    fn number(self) -> u32 {
+        20
     }
 }

@@ -9,9 +9,10 @@ use native.Mathlib.Omega.{arith}
 use native.Mathlib.Decide.{ℕ_discrete}
 use borrow.Author.Tests.{eq-eqb, ne_eqb, eqb-false, lt-ltb, le-ltb, leb-true, not-true, not-false}
 use lib.Dec.{leb, ltb, eqb, lit<}
-use lib.ListN.{length, get_or}
+use lib.ListN.{length, drop, get_or, length-take, drop_of_length-le}
+use lib.Seq.{get_or-take}
 use Rattle.common.specs.Lists.{every}
-use Rattle.common.proofs.Chains.{rest, next, none_left}
+use Rattle.common.proofs.Lists.{drop-next}
 use Rattle.common.proofs.Tests.{not-leb, not-both, both_true}
 use Rattle.columns.specs.declared.Field.{Field}
 use Rattle.columns.specs.declared.Field.TheVariants.{Blank, Number}
@@ -19,7 +20,7 @@ use Rattle.columns.specs.Number.{digit, number, after}
 use Rattle.columns.specs.Number as Columns
 use Rattle.columns.proofs.Reading.{digit-le}
 use Rattle.test_day.specs.Page.{digits_of, is_line, line_of}
-use Rattle.test_day.specs.declared.SeedLine.TheVariants.{Seed, Malformed}
+use Rattle.std.specs.Prelude.{Some, None}
 
 -- below a or above b
 outside : (a b n : ℕ) → ltb n a || ltb b n ≡ not (leb a n && leb n b)
@@ -44,7 +45,7 @@ module _ (text : List ℕ) where
 
   -- ---- the tests before the loop
 
-  pub malformed : is_line text ≡ false → Malformed ≡ line_of text
+  pub malformed : is_line text ≡ false → None ≡ line_of text
   unfolding line_of
   malformed h = rw h
 
@@ -83,8 +84,8 @@ module _ (text : List ℕ) where
     pub two : 2 ≤ length text
     -- no zero in front of others
     pub front : 1 < end → get_or text 0 0 ≡ 48 → ⊥
-    pub decides : is_line text ≡ every digit (rest end text i)
-    pub same : number (digits_of text) ≡ after (read_as i n) (rest end text i)
+    pub decides : is_line text ≡ every digit (drop i (digits_of text))
+    pub same : number (digits_of text) ≡ after (read_as i n) (drop i (digits_of text))
     pub small : n < 10 ^ i
     -- so the number is not 0 where a digit follows
     pub some : 0 < i → i < end → 0 < n
@@ -101,26 +102,24 @@ module _ (text : List ℕ) where
         some = λ z l. absurd (omega arith);
       }
 
-  module _ {n i : ℕ} (r : Read n i) (h : i < end) where
+  module _ {n i : ℕ} (r : Read n i) (h : i < length (digits_of text)) where
     abbrev here : ℕ
-    here = get_or text i 0
+    here = get_or (digits_of text) i 0
 
-    split : rest end text i ≡ here ∷ rest end text (i + 1)
-    split = next end text i 0 h (omega arith)
+    before : i < end
+    before = omega (arith, length-take end text)
 
-    pub stops : ltb here 48 || ltb 57 here ≡ true → is_line text ≡ false
+    split : drop i (digits_of text) ≡ here ∷ drop (i + 1) (digits_of text)
+    split = drop-next (digits_of text) i 0 h
+
+    pub stops : digit here ≡ false → is_line text ≡ false
     unfolding every
-    stops out =
-        let bad : digit here ≡ false = not-true _ (sym (outside 48 57 here) ∙ out) in
-        r.decides ∙ rw (split, bad)
+    stops bad = r.decides ∙ rw (split, bad)
 
     pub small-enough : n < 1000000000
-    small-enough = omega (arith, r.small, pow-le-pow_right {n = 10} (lit< tt) {i = i} {j = 9} (omega (arith, r.eleven)))
+    small-enough = omega (arith, r.small, pow-le-pow_right {n = 10} (lit< tt) {i = i} {j = 9} (omega (arith, before, r.eleven)))
 
-    module _ (inside : ltb here 48 || ltb 57 here ≡ false) where
-      good : digit here ≡ true
-      good = not-false _ (sym (outside 48 57 here) ∙ inside)
-
+    module _ (good : digit here ≡ true) where
       pub range : (48 ≤ here) × (here ≤ 57)
       range = digit-le here good
 
@@ -131,12 +130,12 @@ module _ (text : List ℕ) where
           let none : n < 10 ^ 0 = rw e at r.small in
           let first : here - 48 ≡ 10 * n + (here - 48) = omega arith in
           rw (ne_eqb here 32 (λ blank. omega (arith, range)), good) (ap Number first)
-      goes_on (suc j) e = rw (good, lt-ltb 0 n (r.some (omega arith) h))
+      goes_on (suc j) e = rw (good, lt-ltb 0 n (r.some (omega arith) before))
 
       -- to a number that is not 0 where one more follows
       grows : (j : ℕ) → i ≡ j → i + 1 < end → 0 < 10 * n + (here - 48)
-      grows zero e l = let first : here ≡ 48 → ⊥ = rw e (r.front (omega arith)) in omega (arith, range)
-      grows (suc j) e l = omega (arith, r.some (omega arith) h)
+      grows zero e l = let first : here ≡ 48 → ⊥ = rw (get_or-take end text i 0 before, e) (r.front (omega arith)) in omega (arith, range)
+      grows (suc j) e l = omega (arith, r.some (omega arith) before)
 
       pub step : Read (10 * n + (here - 48)) (i + 1)
       unfolding every
@@ -146,17 +145,17 @@ module _ (text : List ℕ) where
             two = r.two;
             front = r.front;
             decides = r.decides ∙ rw (split, good);
-            same = r.same ∙ ap (after (read_as i n)) split ∙ ap (λ (f : Field). after f (rest end text (i + 1))) (goes_on i refl ∙ rw (add-one i));
+            same = r.same ∙ ap (after (read_as i n)) split ∙ ap (λ (f : Field). after f (drop (i + 1) (digits_of text))) (goes_on i refl ∙ rw (add-one i));
             small = rw (add-one i, pow-succ' 10 i) (omega (arith, r.small, range));
             some = λ z l. grows i refl l;
           }
 
-  pub done : {n i : ℕ} → Read n i → end ≤ i → Seed n ≡ line_of text
+  pub done : {n i : ℕ} → Read n i → length (digits_of text) ≤ i → Some n ≡ line_of text
   unfolding line_of every
   done {n} {i} r h =
-      let none : rest end text i ≡ [] = none_left end text i h in
+      let none : drop i (digits_of text) ≡ [] = drop_of_length-le (digits_of text) h in
       let all : is_line text ≡ true = r.decides ∙ rw none in
       let is : number (digits_of text) ≡ read_as i n = r.same ∙ rw none in
-      let last : suc (i - 1) ≡ i = omega (arith, r.two) in
+      let last : suc (i - 1) ≡ i = omega (arith, r.two, length-take end text) in
       let made : number (digits_of text) ≡ Number n = rw (← last) at is in
       rw (all, made)

@@ -6,22 +6,23 @@ use Prim.Native.Nat.{ℕ, suc, ◌+◌, ◌*◌, ◌/◌, ◌≤◌, ◌<◌, mi
 use native.Mathlib.Nat.{zero-add}
 use native.Mathlib.Numerals.{add-one}
 use native.Mathlib.Omega.{arith}
-use borrow.Author.Tests.{lt-ltb, le-ltb}
+use borrow.Author.Tests.{lt-ltb, le-ltb, le-leb}
+use borrow.Rule.Slice.PartMut.{put_mid}
 use lib.IntN.{pos}
-use lib.ListN.{length, get_or, take, set, replicate, length-append, length-take, length-replicate}
+use lib.ListN.{length, get_or, take, replicate, length-append, length-take, length-replicate}
 use lib.Seq.{take_all, take-suc}
+use Rattle.std.specs.Prelude.{Some, None}
+use Rattle.std.proofs.lemmas.Slice.{put_mid-paste}
 use Rattle.common.specs.Answer.{Answer, refused, given, cause, checked}
 use Rattle.common.specs.Lists.{placed}
 use Rattle.common.proofs.Tests.{by-test}
-use Rattle.common.proofs.Placing.{stays, placed-none, placed-length, placed-behind, stores}
+use Rattle.common.proofs.Placing.{stays, placed-none, placed-length, placed-behind}
 use Rattle.columns.specs.Line.{number_line}
 use Rattle.columns.specs.Number.{text}
 use Rattle.columns.proofs.Columns.{text-length}
 use Rattle.test_day.specs.Day.{readings, too_large, fill_causes, filling, filled}
-use Rattle.test_day.specs.Page.{is_line, seed_of, page_causes, lines, printed, line_of}
-use Rattle.test_day.specs.declared.SeedLine.{SeedLine}
-use Rattle.test_day.specs.declared.SeedLine.TheVariants.{Seed, Malformed}
-use Rattle.test_day.proofs.Seeds.{readings-length, fills, given-good, refused-large}
+use Rattle.test_day.specs.Page.{is_line, seed_of, page_causes, lines, printed, page_readings, line_of}
+use Rattle.test_day.proofs.Seeds.{readings-length, refuses, fills, given-good, refused-large}
 
 -- ---- lines
 
@@ -39,13 +40,12 @@ unfolding flat_map
 lines_snoc [] r = append-nil (number_line r)
 lines_snoc (x ∷ rs) r = ap (λ (l : List ℕ). number_line x ++ l) (lines_snoc rs r) ∙ sym (append_assoc (number_line x) (flat_map number_line rs) (number_line r))
 
--- the number, then the line feed
-pub line-placed : (at n : ℕ) (page : List ℕ) → at + 10 ≤ length page → set (placed at (text 9 (pos n)) page) (at + 9) 10 ≡ placed at (number_line n) page
-unfolding number_line
-line-placed at n page h =
-    let long = placed-length at (text 9 (pos n)) page in
-    stores (placed at (text 9 (pos n)) page) (at + 9) 10 (omega arith)
-    ∙ placed-behind at 9 (text 9 (pos n)) (10 ∷ []) page (text-length 9 (pos n)) (omega arith)
+-- the bytes of a part of the page replaced by a line
+pub line-placed : (at k n : ℕ) (page line : List ℕ) → at + 10 ≤ length page → k ≡ 10 → line ≡ number_line n → put_mid at k page line ≡ placed at (number_line n) page
+unfolding placed
+line-placed at k n page line h k-is line-is =
+    rw (le-leb (at + length (number_line n)) (length page) (omega (arith, line-length n)))
+    (put_mid-paste at k page line (number_line n) (length (number_line n)) line-is (omega (arith, line-length n)) refl)
 
 -- a page that has not all of the places
 pub too_short : (t page : List ℕ) → length page < length t → page ≡ placed 0 t page
@@ -88,64 +88,67 @@ module _ (rs page : List ℕ) where
     pub done : length rs ≤ i → now ≡ placed 0 (flat_map number_line rs) page
     done h = w.is ∙ ap (λ (l : List ℕ). placed 0 (flat_map number_line l) page) (take_all i rs h)
 
--- ---- what is printed, by what the text says
-
-unfoldable printed_for : SeedLine → List ℕ
-printed_for (Seed n) = lines (checked (fill_causes n) (readings 3600 n))
-printed_for Malformed = number_line 13
-
-printed-is : (text : List ℕ) → printed text ≡ printed_for (line_of text)
-unfolding printed page_causes line_of printed_for
-printed-is text = by (is_line text)
-  where
-    by : (t : Bool) → lines (checked (cause 13 (not t) ∷ cause 21 (too_large (seed_of text)) ∷ []) (readings 3600 (seed_of text)))
-        ≡ printed_for (cond t (Seed (seed_of text)) Malformed)
-    by true = refl
-    by false = refl
+-- ---- what is printed
 
 -- 13 and 21 take ten bytes, and readings 36,000
 printed-most : (text : List ℕ) → length (printed text) ≤ 36000
-unfolding printed_for
-printed-most text = rw (printed-is text) (by (line_of text))
-  where
-    by : (l : SeedLine) → length (printed_for l) ≤ 36000
-    by Malformed = omega (arith, line-length 13)
-    by (Seed n) = by-test (λ (a : Answer (List ℕ)). length (lines a) ≤ 36000) (too_large n) (refused 21) (given (readings 3600 n))
-        (λ t. omega (arith, line-length 21)) (λ f. omega (arith, lines-length (readings 3600 n), readings-length 3600 n))
+unfolding printed page_readings page_causes
+printed-most text =
+    by-test (λ (a : Answer (List ℕ)). length (lines a) ≤ 36000) (not (is_line text)) (refused 13) (checked (fill_causes (seed_of text)) (readings 3600 (seed_of text)))
+    (λ t. omega (arith, line-length 13))
+    (λ f. by-test (λ (a : Answer (List ℕ)). length (lines a) ≤ 36000) (too_large (seed_of text)) (refused 21) (given (readings 3600 (seed_of text)))
+    (λ t. omega (arith, line-length 21)) (λ g. omega (arith, lines-length (readings 3600 (seed_of text)), readings-length 3600 (seed_of text))))
 
 pub printed-fits : (text page : List ℕ) {last : List ℕ} {count : ℕ} → count ≡ length (printed text) → last ≡ placed 0 (printed text) page → length page ≡ 36000
     → count ≤ length last
 printed-fits text page counted is long = rw (counted, is, placed-length 0 (printed text) page, long) (printed-most text)
 
--- a seed is refused or has its readings
-by-seed : (text : List ℕ) {n : ℕ} → line_of text ≡ Seed n → printed text ≡ lines (checked (fill_causes n) (readings 3600 n))
-unfolding printed_for
-by-seed text said = printed-is text ∙ ap printed_for said
+-- ---- the readings of the period, by what the text says
 
-pub record Prints (text page last : List ℕ) (count : ℕ) : Type 0 where
-  pub counted : count ≡ length (printed text)
-  pub is : last ≡ placed 0 (printed text) page
+module _ (text : List ℕ) where
+  pub malformed-13 : line_of text ≡ None → refused 13 ≡ page_readings text
+  unfolding page_readings page_causes line_of
+  malformed-13 = by (is_line text)
+    where
+      by : (t : Bool) → cond t (Some (seed_of text)) None ≡ None
+          → refused 13 ≡ checked (cause 13 (not t) ∷ fill_causes (seed_of text)) (readings 3600 (seed_of text))
+      by true e = let o : ◌≡◌ {A = ℕ} 0 1 = cc in absurd (omega arith)
+      by false e = refl
 
-module _ (text page : List ℕ) {last : List ℕ} where
-  refusal : (n : ℕ) → printed text ≡ number_line n → last ≡ placed 0 (number_line n) page → Prints text page last 10
-  refusal n e is = record { counted = rw (e, line-length n); is = rw e is }
-
-  pub prints-13 : line_of text ≡ Malformed → last ≡ placed 0 (number_line 13) page → Prints text page last 10
-  unfolding printed_for
-  prints-13 said = refusal 13 (printed-is text ∙ ap printed_for said)
+  by-seed : {n : ℕ} → line_of text ≡ Some n → page_readings text ≡ checked (fill_causes n) (readings 3600 n)
+  unfolding page_readings page_causes line_of
+  by-seed {n} = by (is_line text)
+    where
+      by : (t : Bool) → cond t (Some (seed_of text)) None ≡ Some n
+          → checked (cause 13 (not t) ∷ fill_causes (seed_of text)) (readings 3600 (seed_of text)) ≡ checked (fill_causes n) (readings 3600 n)
+      by true e = let same : seed_of text ≡ n = cc in rw same
+      by false e = let o : ◌≡◌ {A = ℕ} 0 1 = cc in absurd (omega arith)
 
   -- `fill` is handed the smaller of the seed and the greatest u32
-  module _ {n seed : ℕ} (said : line_of text ≡ Seed n) (handed : seed ≡ min n 4294967295) (k : ℕ) where
-    pub prints-21 : filling seed k ≡ refused 21 → last ≡ placed 0 (number_line 21) page → Prints text page last 10
-    prints-21 e =
-        let large : 2147483647 < seed = refused-large seed k e in
-        refusal 21 (by-seed text said ∙ rw (lt-ltb 2147483647 n (omega arith)))
+  module _ {n seed : ℕ} (said : line_of text ≡ Some n) (handed : seed ≡ min n 4294967295) (k : ℕ) where
+    pub seed-refused : {number : ℕ} → refused number ≡ filling seed k → refused number ≡ page_readings text
+    seed-refused {number} e =
+        let large : 2147483647 < seed = refused-large seed k (sym e) in
+        let same : ◌≡◌ {A = Answer ℕ} (refused number) (refused 21) = e ∙ refuses seed large k in
+        let is-21 : number ≡ 21 = cc in
+        rw is-21 (sym (by-seed said ∙ rw (lt-ltb 2147483647 n (omega arith))))
 
-    pub prints-readings : {l : ℕ} → filling seed k ≡ given l → {rs : List ℕ} → rs ≡ filled seed (replicate 3600 0)
-        → last ≡ placed 0 (flat_map number_line rs) page → Prints text page last 36000
-    prints-readings e {rs} rs-is is =
-        let good : seed ≤ 2147483647 = given-good seed k e in
+    pub seed-given : {last : ℕ} → given last ≡ filling seed k → {rs : List ℕ} → rs ≡ filled seed (replicate 3600 0) → given rs ≡ page_readings text
+    seed-given e {rs} rs-is =
+        let good : seed ≤ 2147483647 = given-good seed k (sym e) in
         let same : seed ≡ n = omega arith in
         let made : rs ≡ readings 3600 n = rs-is ∙ fills seed good (replicate 3600 0) ∙ rw (length-replicate {A = ℕ} 3600 0, same) in
-        let all : printed text ≡ flat_map number_line rs = by-seed text said ∙ rw (le-ltb 2147483647 n (omega arith), made) in
-        record { counted = rw (all, lines-length rs, made, readings-length 3600 n); is = rw all is }
+        ap given made ∙ sym (by-seed said ∙ rw (le-ltb 2147483647 n (omega arith)))
+
+  pub record Prints (page last : List ℕ) (count : ℕ) : Type 0 where
+    pub counted : count ≡ length (printed text)
+    pub is : last ≡ placed 0 (printed text) page
+
+  module _ (page : List ℕ) {last : List ℕ} where
+    pub prints-number : {n : ℕ} → refused n ≡ page_readings text → last ≡ placed 0 (number_line n) page → Prints page last 10
+    unfolding printed
+    prints-number {n} e is = record { counted = rw (← e, line-length n); is = rw (← e) is }
+
+    pub prints-readings : {rs : List ℕ} → given rs ≡ page_readings text → length rs ≡ 3600 → last ≡ placed 0 (flat_map number_line rs) page → Prints page last 36000
+    unfolding printed
+    prints-readings {rs} e long is = record { counted = rw (← e, lines-length rs, long); is = rw (← e) is }

@@ -53,14 +53,9 @@ last-small (suc n) seed h = last-small n (next_seed seed) (omega arith)
 -- ---- the answers
 
 module _ (seed : ℕ) where
-  module _ (large : 2147483647 < seed) where
-    pub refuses : (n : ℕ) → refused 21 ≡ filling seed n
-    unfolding filling
-    refuses n = rw (lt-ltb 2147483647 seed large)
-
-    pub stays : (buffer : List ℕ) → buffer ≡ filled seed buffer
-    unfolding filled
-    stays buffer = rw (lt-ltb 2147483647 seed large)
+  pub refuses : 2147483647 < seed → (n : ℕ) → filling seed n ≡ refused 21
+  unfolding filling
+  refuses large n = rw (lt-ltb 2147483647 seed large)
 
   module _ (good : seed ≤ 2147483647) where
     pub gives : (n : ℕ) → filling seed n ≡ given (last_seed n seed)
@@ -81,11 +76,11 @@ module _ (seed : ℕ) where
     unfolding filling
     given-last e = given-value (fill_causes seed) (last_seed n seed) _ e
 
-    pub refused-large : filling seed n ≡ refused 21 → 2147483647 < seed
-    refused-large e = by (dec_le seed 2147483647)
+    pub refused-large : {k : ℕ} → filling seed n ≡ refused k → 2147483647 < seed
+    refused-large {k} e = by (dec_le seed 2147483647)
       where
         by : Dec (seed ≤ 2147483647) → 2147483647 < seed
-        by (yes h) = let g : given (last_seed n seed) ≡ refused 21 = sym (gives h n) ∙ e in let o : ◌≡◌ {A = ℕ} 0 1 = cc in absurd (omega arith)
+        by (yes h) = let g : given (last_seed n seed) ≡ refused k = sym (gives h n) ∙ e in let o : ◌≡◌ {A = ℕ} 0 1 = cc in absurd (omega arith)
         by (no h) = omega arith
 
   -- ---- the loop: after i turns the buffer begins with i readings
@@ -102,7 +97,7 @@ module _ (seed : ℕ) where
     begin h = record { good = h; long = refl; within = omega arith; last-is = refl; begins = refl }
 
     module _ {buffer : List ℕ} {last i : ℕ} (f : Filled buffer last i) where
-      pub step : {s r : ℕ} → i < length buffer → s ≡ next_seed last → r ≡ reading s → Filled (set buffer i r) s (i + 1)
+      pub step : {s r : ℕ} → i < length before → s ≡ next_seed last → r ≡ reading s → Filled (set buffer i r) s (i + 1)
       step {s} {r} h s-is r-is =
           let e : s ≡ last_seed (suc i) seed = s-is ∙ ap next_seed f.last-is ∙ sym (last-next i seed) in
           record {
@@ -110,15 +105,15 @@ module _ (seed : ℕ) where
             long = length-set buffer i r ∙ f.long;
             within = omega (arith, f.long);
             last-is = rw (add-one i) e;
-            begins = rw (add-one i, take-suc-set buffer i r h, f.begins, r-is, e) (sym (readings-next i seed));
+            begins = rw (add-one i, take-suc-set buffer i r (omega (arith, f.long)), f.begins, r-is, e) (sym (readings-next i seed));
           }
 
-      module _ (h : length buffer ≤ i) where
+      module _ (h : length before ≤ i) where
         end : i ≡ length before
-        end = omega (arith, f.long, f.within)
+        end = omega (arith, f.within)
 
         pub done : given last ≡ filling seed (length before)
         done = rw (f.last-is, end) (sym (gives f.good (length before)))
 
         pub done-buffer : buffer ≡ filled seed before
-        done-buffer = sym (take_all i buffer h) ∙ f.begins ∙ ap (λ (n : ℕ). readings n seed) end ∙ sym (fills f.good before)
+        done-buffer = sym (take_all i buffer (omega (arith, f.long))) ∙ f.begins ∙ ap (λ (n : ℕ). readings n seed) end ∙ sym (fills f.good before)

@@ -1,9 +1,9 @@
 -- Paper 02, No. 9: a test day, frequency readings that anyone can repeat from a seed. Assumes nothing.
-use Rattle.std.specs.Prelude.{◌≡◌, Bool, true, ◌&&◌, List, [], ◌∷◌, ◌++◌, ℕ, zero, suc, ◌+◌, ◌*◌, ◌/◌, ◌%◌, leb, ltb, length}
-use Rattle.common.specs.Answer.{Answer, refused, given, Cause, cause, checked, or_blank}
+use Rattle.std.specs.Prelude.{◌≡◌, Bool, true, ◌&&◌, List, [], ◌∷◌, ◌++◌, ℕ, zero, suc, ◌+◌, ◌*◌, ◌/◌, ◌%◌, leb, ltb, length, Result}
+use Rattle.common.specs.Answer.{Answer, given, Cause, cause, checked, or_blank, answered}
 use Rattle.common.specs.Lists.{every}
-use Rattle.test_day.specs.declared.FillAnswer.{FillAnswer}
-use Rattle.test_day.specs.declared.FillAnswer.TheVariants.{Last, TooLarge}
+use Rattle.test_day.specs.declared.SeedRefusal.{SeedRefusal}
+use Rattle.test_day.specs.declared.SeedRefusal.TheVariants.{TooLarge}
 
 -- ---- seeds and readings
 
@@ -43,10 +43,12 @@ filling seed n = checked (fill_causes seed) (last_seed n seed)
 unfoldable pub filled : ℕ → List ℕ → List ℕ
 filled seed buffer = or_blank buffer (checked (fill_causes seed) (readings (length buffer) seed))
 
--- the number, or the last seed, of each case of the code's answer
-abbrev pub answer_of : FillAnswer → Answer ℕ
-answer_of (Last seed) = given seed
-answer_of TooLarge = refused 21
+-- the number of the code's refusal
+abbrev pub refusal_number : SeedRefusal → ℕ
+refusal_number TooLarge = 21
+
+abbrev pub answer_of : Result ℕ SeedRefusal → Answer ℕ
+answer_of = answered refusal_number
 
 -- ---- the laws; proofs/Laws.antt proves both
 

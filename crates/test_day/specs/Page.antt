@@ -1,14 +1,14 @@
 -- Paper 02, No. 9: the line that a seed is read from, and what is printed for it. In ASCII 10 is a line feed and 48 the digit 0.
 -- Assumes nothing.
-use Rattle.std.specs.Prelude.{Bool, not, cond, ◌&&◌, ◌||◌, ℕ, ◌-◌, leb, eqb, length, take, get_or}
+use Rattle.std.specs.Prelude.{Bool, not, cond, ◌&&◌, ◌||◌, ℕ, ◌-◌, leb, eqb, length, take, get_or, Option, Some, None, Result}
 use mathlib.Core.List.{List, [], ◌∷◌, flat_map}
-use Rattle.common.specs.Answer.{Answer, refused, given, Cause, cause, checked}
+use Rattle.common.specs.Answer.{Answer, refused, given, Cause, cause, checked, answered}
 use Rattle.common.specs.Lists.{every}
 use Rattle.columns.specs.Line.{number_line}
 use Rattle.columns.specs.Number.{digit, number, value}
-use Rattle.test_day.specs.Day.{readings, too_large}
-use Rattle.test_day.specs.declared.SeedLine.{SeedLine}
-use Rattle.test_day.specs.declared.SeedLine.TheVariants.{Seed, Malformed}
+use Rattle.test_day.specs.Day.{readings, too_large, refusal_number}
+use Rattle.test_day.specs.declared.PageRefusal.{PageRefusal}
+use Rattle.test_day.specs.declared.PageRefusal.TheVariants.{Malformed, Seed}
 
 -- ---- the line
 
@@ -40,9 +40,21 @@ lines (refused n) = number_line n
 lines (given rs) = flat_map number_line rs
 
 -- one period of 3,600
-unfoldable pub printed : List ℕ → List ℕ
-printed text = lines (checked (page_causes text) (readings 3600 (seed_of text)))
+unfoldable pub page_readings : List ℕ → Answer (List ℕ)
+page_readings text = checked (page_causes text) (readings 3600 (seed_of text))
 
--- ---- what the private function reads
-unfoldable pub line_of : List ℕ → SeedLine
-line_of text = cond (is_line text) (Seed (seed_of text)) Malformed
+unfoldable pub printed : List ℕ → List ℕ
+printed text = lines (page_readings text)
+
+-- ---- what the private functions make
+
+unfoldable pub line_of : List ℕ → Option ℕ
+line_of text = cond (is_line text) (Some (seed_of text)) None
+
+-- the number of each of the code's refusals
+abbrev pub page_refusal_number : PageRefusal → ℕ
+page_refusal_number Malformed = 13
+page_refusal_number (Seed refusal) = refusal_number refusal
+
+abbrev pub page_answer_of : Result (List ℕ) PageRefusal → Answer (List ℕ)
+page_answer_of = answered page_refusal_number

@@ -3,25 +3,25 @@
 
 ghost use Rattle.std.specs.Prelude.{◌≡◌, ◌+◌, ◌≤◌, length};
 ghost use mathlib.Core.List.{flat_map};
-ghost use Rattle.common.specs.Answer.{number_of};
 ghost use Rattle.common.specs.Lists.{placed};
 ghost use Rattle.columns.specs.Line.{number_line};
-ghost use Rattle.test_day.specs.Day.{next_seed, reading, filling, filled, answer_of};
-ghost use Rattle.test_day.specs.Page.{line_of, printed};
+ghost use Rattle.test_day.specs.Day.{next_seed, reading, filling, filled, refusal_number, answer_of};
+ghost use Rattle.test_day.specs.Page.{line_of, page_refusal_number, page_answer_of, page_readings, printed};
 
-#[derive(Clone, Copy)]
-pub enum FillAnswer {
-    // The last seed.
-    Last(u32),
-    // Refusal 21: the seed is above 2,147,483,647.
+use common::Refusal;
+
+#[derive(Clone, Copy, Debug, PartialEq, Eq)]
+pub enum SeedRefusal {
+    // The seed is above 2,147,483,647.
     TooLarge,
 }
 
-// What a text says.
-#[derive(Clone, Copy)]
-enum SeedLine {
-    Seed(u64),
+// Why a text has no readings.
+#[derive(Clone, Copy, Debug, PartialEq, Eq)]
+enum PageRefusal {
+    // It is no line with a seed.
     Malformed,
+    Seed(SeedRefusal),
 }
 
 fn next_seed(old: u32) -> u32
@@ -37,60 +37,83 @@ fn reading_of(new: u32) -> u16
 }
 
 // Fills the buffer with readings, a step for each, and gives the last seed. A seed too large leaves the buffer as it is.
-pub fn fill(seed: u32, buffer: &mut [u16]) -> FillAnswer
+#[tactic(auto, unfolding(crate::specs::Day::filling, crate::specs::Day::filled))]
+pub fn fill(seed: u32, buffer: &mut [u16]) -> Result<u32, SeedRefusal>
     ensures answer { answer_of result ≡ filling seed (length buffer.old) }
     ensures buffer { buffer.new ≡ filled seed buffer.old }
 {
     if 2_147_483_647 < seed {
-        return FillAnswer::TooLarge;
+        return Err(SeedRefusal::TooLarge);
     }
     let mut last = seed;
-    let mut i: usize = 0;
-    while i < buffer.len() {
+    for place in buffer.iter_mut() {
         let new = next_seed(last);
-        buffer[i] = reading_of(new);
+        *place = reading_of(new);
         last = new;
-        i += 1;
     }
-    FillAnswer::Last(last)
+    Ok(last)
 }
 
-// The number of an answer, 0 where the buffer is filled.
-pub fn number(answer: FillAnswer) -> u32
-    ensures { result ≡ number_of (answer_of answer) }
-{
-    match answer {
-        FillAnswer::Last(_) => 0,
-        FillAnswer::TooLarge => 21,
+impl Refusal for SeedRefusal {
+    ghost refusal = { refusal_number };
+
+    fn number(self) -> u32 {
+        match self {
+            SeedRefusal::TooLarge => 21,
+        }
+    }
+}
+
+impl Refusal for PageRefusal {
+    ghost refusal = { page_refusal_number };
+
+    fn number(self) -> u32 {
+        match self {
+            PageRefusal::Malformed => 13,
+            PageRefusal::Seed(refusal) => refusal.number(),
+        }
     }
 }
 
 // One to ten digits and a line feed. Nine digits are below 10^9, so that the tenth fits.
-fn read_line(text: &[u8]) -> SeedLine
+fn read_line(text: &[u8]) -> Option<u64>
     ensures { result ≡ line_of text.now }
 {
     if (text.len() < 2) | (11 < text.len()) {
-        return SeedLine::Malformed;
+        return None;
     }
     let end = text.len() - 1;
-    if text[end] != 10 {
-        return SeedLine::Malformed;
+    if text[end] != b'\n' {
+        return None;
     }
     // A zero in front stands alone.
-    if (1 < end) & (text[0] == 48) {
-        return SeedLine::Malformed;
+    if (1 < end) & (text[0] == b'0') {
+        return None;
     }
     let mut seed: u64 = 0;
-    let mut i: usize = 0;
-    while i < end {
-        let b = text[i];
-        if (b < 48) | (57 < b) {
-            return SeedLine::Malformed;
+    for b in &text[..end] {
+        if !b.is_ascii_digit() {
+            return None;
         }
-        seed = 10 * seed + (b - 48) as u64;
-        i += 1;
+        seed = 10 * seed + (*b - b'0') as u64;
     }
-    SeedLine::Seed(seed)
+    Some(seed)
+}
+
+// The readings of a period for the seed in the text.
+fn period(text: &[u8]) -> Result<[u16; 3600], PageRefusal>
+    ensures { page_answer_of result ≡ page_readings text.now }
+{
+    let Some(seed) = read_line(text) else {
+        return Err(PageRefusal::Malformed);
+    };
+    let mut readings = [0u16; 3600];
+    // What a u32 cannot hold is too large as well.
+    let handed = seed.min(4_294_967_295) as u32;
+    match fill(handed, &mut readings) {
+        Ok(_) => Ok(readings),
+        Err(refusal) => Err(PageRefusal::Seed(refusal)),
+    }
 }
 
 // A number in nine columns and a line feed.
@@ -98,8 +121,7 @@ fn put_line(page: &mut [u8], at: usize, n: u64)
     requires { at + 10 ≤ length page.old }
     ensures { page.new ≡ placed at (number_line n) page.old }
 {
-    columns::put_number(page, at, 9, n);
-    page[at + 9] = 10;
+    page[at..at + 10].copy_from_slice(&columns::number_line(n));
 }
 
 // The line of a refusal at the start of the page.
@@ -119,10 +141,8 @@ fn put_lines(page: &mut [u8], readings: &[u16])
     if page.len() / 10 < readings.len() {
         return;
     }
-    let mut i: usize = 0;
-    while i < readings.len() {
-        put_line(page, 10 * i, readings[i] as u64);
-        i += 1;
+    for (i, reading) in readings.iter().enumerate() {
+        put_line(page, 10 * i, *reading as u64);
     }
 }
 
@@ -132,17 +152,14 @@ pub fn print_period(text: &[u8], page: &mut [u8]) -> usize
     ensures count { result ≡ length (printed text.now) }
     ensures page { page.new ≡ placed 0 (printed text.now) page.old }
 {
-    let SeedLine::Seed(seed) = read_line(text) else {
-        put_refusal(page, 13);
-        return 10;
-    };
-    let mut readings = [0u16; 3600];
-    // What a u32 cannot hold is too large as well.
-    let answer = fill(common::smaller(seed, 4_294_967_295) as u32, &mut readings);
-    let FillAnswer::Last(_) = answer else {
-        put_refusal(page, number(answer));
-        return 10;
-    };
-    put_lines(page, &readings);
-    36_000
+    match period(text) {
+        Ok(readings) => {
+            put_lines(page, &readings);
+            36_000
+        }
+        Err(refusal) => {
+            put_refusal(page, refusal.number());
+            10
+        }
+    }
 }

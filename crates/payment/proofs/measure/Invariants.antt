@@ -1,10 +1,6 @@
--- What the loops of `measure` keep, and their measures. Assumes nothing.
-use Prim.Native.Nat.{◌-◌}
+-- What the loop of `measure` keeps. Assumes nothing.
 use Rattle.payment.proofs.Measuring.{Read}
 use Rattle.payment.proofs.measure.Given as goal
 
-abbrev pub invariant-loop-i : goal.invariant-loop-i
-invariant-loop-i l = Read l.count l.ps.pieces l.seconds l.work l.i
-
-abbrev pub decreases-loop-i : goal.decreases-loop-i
-decreases-loop-i l = l.count - l.i
+abbrev pub invariant-loop-p : goal.invariant-loop-p
+invariant-loop-p l = Read l.pieces l.seconds l.work l.p-index

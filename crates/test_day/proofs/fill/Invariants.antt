@@ -1,11 +1,6 @@
--- What the loops of `fill` keep, and their measures. Assumes nothing.
-use Prim.Native.Nat.{◌-◌}
-use lib.ListN.{length}
+-- What the loop of `fill` keeps. Assumes nothing.
 use Rattle.test_day.proofs.Seeds.{Filled}
 use Rattle.test_day.proofs.fill.Given as goal
 
-abbrev pub invariant-loop-i : goal.invariant-loop-i
-invariant-loop-i l = Filled l.seed l.initial.buffer l.buffer l.last l.i
-
-abbrev pub decreases-loop-i : goal.decreases-loop-i
-decreases-loop-i l = length l.initial.buffer - l.i
+abbrev pub invariant-loop-place : goal.invariant-loop-place
+invariant-loop-place l = Filled l.seed l.initial.buffer l.buffer l.last l.place-index

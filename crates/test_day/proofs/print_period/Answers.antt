@@ -1,22 +1,17 @@
 -- `test_day::print_period` meets its contract. Assumes nothing.
-use mathlib.Core.Path.{sym, ap, ◌∙◌}
-use Rattle.test_day.specs.Day.{answer_of}
-use Rattle.test_day.proofs.Printing.{prints-13, prints-21, prints-readings}
+use lib.ListN.{length}
+use mathlib.Core.Path.{◌≡◌}
+use borrow.Author.Rules.{rules}
+use Rattle.test_day.proofs.Printing.{prints-number, prints-readings}
 use Rattle.test_day.proofs.print_period.Goals as goal
 
-pub returns-in_default : goal.returns-in_default
-returns-in_default c =
-    let p = prints-13 _ _ (sym c.read_line.ensures ∙ c.in_default.is) c.put_refusal.ensures in
+pub returns-in-Ok : goal.returns-in-Ok
+returns-in-Ok c =
+    let long : length c.in-Ok.readings ≡ 3600 = search rules in
+    let p = prints-readings _ _ c.in-Ok.ensures long c.put_lines.ensures in
     record { count = p.counted; page = p.is }
 
-pub returns-in_default-answer : goal.returns-in_default-answer
-returns-in_default-answer c =
-    let large = c.in_default-answer.is in
-    let p = prints-21 _ _ (sym c.in-Seed.ensures) c.smaller.ensures _ (sym c.fill-answer.ensures.answer ∙ ap answer_of large)
-    (rw (c.number.ensures, large) at c.put_refusal-in_default-answer.ensures) in
-    record { count = p.counted; page = p.is }
-
-pub returns : goal.returns
-returns c =
-    let p = prints-readings _ _ (sym c.in-Seed.ensures) c.smaller.ensures _ (sym c.in-Last.ensures.answer) c.fill-answer.ensures.buffer c.put_lines.ensures in
+pub returns-in-Err : goal.returns-in-Err
+returns-in-Err c =
+    let p = prints-number _ _ c.in-Err.ensures (rw c.number.ensures at c.put_refusal.ensures) in
     record { count = p.counted; page = p.is }

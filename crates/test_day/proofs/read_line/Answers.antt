@@ -1,4 +1,5 @@
 -- `test_day::read_line` meets its contract. The loop's invariant is `Read`. Assumes nothing.
+use mathlib.Core.Path.{sym, ◌∙◌}
 use Rattle.test_day.proofs.Digits.{malformed, other_length, no-line-feed, zero-in-front, begin, stops, step, done}
 use Rattle.test_day.proofs.read_line.Goals as goal
 
@@ -11,14 +12,15 @@ returns-then-text-end-ne10 c = malformed _ (no-line-feed _ c.if-text.false c.if-
 pub returns-then-end-text : goal.returns-then-end-text
 returns-then-end-text c = malformed _ (zero-in-front _ c.if-text.false c.if-text-end-ne10.false c.if-end-text.true)
 
-pub loop-i-init : goal.loop-i-init
-loop-i-init c = begin _ c.if-text.false c.if-text-end-ne10.false c.if-end-text.false
+pub loop-b-init : goal.loop-b-init
+loop-b-init c = begin _ c.if-text.false c.if-text-end-ne10.false c.if-end-text.false
 
-pub returns-then-b : goal.returns-then-b
-returns-then-b c = malformed _ (stops _ c.loop-i.invariant c.loop-i-test.true c.if-b.true)
+pub returns-then-not-is_ascii_digit : goal.returns-then-not-is_ascii_digit
+returns-then-not-is_ascii_digit c =
+    malformed _ (stops _ c.loop-b.invariant c.loop-b-test.true (sym c.is_ascii_digit.ensures.value ∙ c.if-not-is_ascii_digit.true))
 
-pub loop-i-preserved : goal.loop-i-preserved
-loop-i-preserved c = step _ c.loop-i.invariant c.loop-i-test.true c.if-b.false
+pub loop-b-preserved : goal.loop-b-preserved
+loop-b-preserved c = step _ c.loop-b.invariant c.loop-b-test.true (sym c.is_ascii_digit.ensures.value ∙ c.if-not-is_ascii_digit.false)
 
 pub returns : goal.returns
-returns c = done _ c.loop-i.invariant c.loop-i-test.false
+returns c = done _ c.loop-b.invariant c.loop-b-test.false
