@@ -36,34 +36,21 @@ pub enum Call {
     // curve S D1 H1 ..
     Curve(Service, Curve),
     // open LDC LDM LDR HDC HDM HDR EXPORT IMPORT SIZE FIRST
-    Open {
-        terms: Terms,
-        size: u32,
-        first: u32,
-    },
+    Open { terms: Terms, size: u32, first: u32 },
     // read V N
-    Read {
-        reading: u16,
-        times: usize,
-    },
+    Read { reading: u16, times: usize },
     // check P
     Check(i64),
     Propose,
     // close P D T W
     Close(Closing),
     // put K V
-    Put {
-        key: usize,
-        value: i64,
-    },
+    Put { key: usize, value: i64 },
     // energy and table LDC LDM LDR HDC HDM HDR
     Energy(Directions<Quantities>),
     Table(Directions<Quantities>),
     // respond MW D
-    Respond {
-        quantity: u32,
-        deviation: u16,
-    },
+    Respond { mw: u32, deviation: u16 },
     Block,
     // part N
     Part(u32),
@@ -162,7 +149,7 @@ impl Call {
             "energy" => Call::Energy(both_quantities(&mut parts)?),
             "table" => Call::Table(both_quantities(&mut parts)?),
             "respond" => Call::Respond {
-                quantity: next(&mut parts)?,
+                mw: next(&mut parts)?,
                 deviation: next(&mut parts)?,
             },
             "block" => Call::Block,

@@ -28,7 +28,7 @@ fn carry_out(rt: &impl Print, input: &[u8]) -> io::Result<()> {
     Ok(())
 }
 
-// Room for the most bytes and one more.
+// Room for the most bytes and one more; by its contract the check of `main` computes no list of that length.
 fn room() -> [u8; 1_000_001]
     ensures { 1000001 ≡ length result }
 {

@@ -1,5 +1,6 @@
 // The readings that the lines have named, until a call uses them up.
 ghost use Rattle.std.specs.Prelude.{◌≤◌};
+ghost use Rattle.ledger_trace.specs.declared.readings.TheConstants.{MOST};
 
 use energy::rate::BLOCK_AT_TWENTY;
 
@@ -11,7 +12,7 @@ const MOST: usize = BLOCK_AT_TWENTY + 1;
 pub struct Readings {
     room: [u16; MOST],
     count: usize,
-    ghost within: { count ≤ 288001 },
+    ghost within: { count ≤ MOST },
 }
 
 impl Readings {

@@ -26,6 +26,10 @@ impl From<io::Error> for Stop {
     }
 }
 
+fn respond(rt: &impl Print, mw: u32, deviation: u16) -> io::Result<()> {
+    println!(rt; "respond {}", response_by_table(mw, deviation))
+}
+
 #[derive(Drop)]
 pub struct State {
     curves: Curves,
@@ -60,9 +64,7 @@ impl State {
             }
             Call::Energy(quantities) => self.bounds::<BySteps>(rt, "energy", quantities)?,
             Call::Table(quantities) => self.bounds::<ByTable>(rt, "table", quantities)?,
-            Call::Respond { quantity, deviation } => {
-                println!(rt; "respond {}", response_by_table(quantity, deviation))?
-            }
+            Call::Respond { mw, deviation } => respond(rt, mw, deviation)?,
             Call::Block => self.block(rt)?,
             Call::Part(period) => self.part(rt, period)?,
             Call::Clear => self.readings.clear(),
@@ -93,7 +95,11 @@ impl State {
 
     fn propose(&self, rt: &impl Print) -> io::Result<()> {
         let proposed = ledger::propose_purchase(&self.record);
-        println!(rt; "propose {} {}", common::number(proposed), proposed.unwrap_or(0))?;
+        println!(rt;
+            "propose {} {}",
+            common::number(proposed),
+            proposed.unwrap_or(0)
+        )?;
         record::print(rt, &self.record)
     }
 
@@ -114,7 +120,12 @@ impl State {
         let answer = period_energy::<W>(quantities, self.curves, self.readings.as_slice());
         self.readings.clear();
         let bounds = answer.unwrap_or(Directions { low: 0, high: 0 });
-        println!(rt; "{word} {} {} {}", common::number(answer), bounds.low, bounds.high)
+        println!(rt;
+            "{word} {} {} {}",
+            common::number(answer),
+            bounds.low,
+            bounds.high
+        )
     }
 
     fn block(&self, rt: &impl Print) -> io::Result<()> {
