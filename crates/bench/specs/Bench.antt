@@ -1,12 +1,12 @@
 -- What the timing program links: period energy and closings over numbers. Assumes nothing.
 use Rattle.std.specs.Prelude.{cond, List, [], ◌∷◌, ℕ, zero, suc, ◌+◌, ◌*◌, eqb, pos}
 use Rattle.common.specs.Answer.{Answer, refused, given, or_blank}
-use Rattle.terms.specs.declared.Quantities.{Quantities}
+use Rattle.common.specs.declared.Directions.{Directions}
+use Rattle.terms.specs.Terms.{Quantities}
 use Rattle.terms.specs.declared.Terms.{Terms}
 use Rattle.energy.specs.declared.curve.Curve.{Curve}
-use Rattle.energy.specs.declared.curve.Curves.{Curves}
-use Rattle.energy.specs.Curve.{point, containment_curve, regulation_curve}
-use Rattle.energy.specs.Period.{Bounds, period_energy}
+use Rattle.energy.specs.Curve.{Curves, point, containment_curve, regulation_curve}
+use Rattle.energy.specs.Period.{period_energy}
 use Rattle.ledger_record.specs.declared.Record.{Record}
 use Rattle.ledger_record.specs.Opening.{blank_record, opening}
 use Rattle.ledger.specs.Calls.{Closing, closing}
@@ -27,7 +27,7 @@ abbrev pub curves_of : ℕ → ℕ → ℕ → Curves
 curves_of dc dm dr = record { dc = curve_of dc; dm = curve_of dm; dr = curve_of dr }
 
 -- a refusal's number, or both bounds as one number
-abbrev pub one_number : Answer Bounds → ℕ
+abbrev pub one_number : Answer (Directions ℕ) → ℕ
 one_number (refused number) = number
 one_number (given b) = b.low * 4294967296 + b.high
 

@@ -6,12 +6,13 @@ ghost use Rattle.std.specs.Prelude.{◌≡◌, ◌+◌, ◌*◌};
 ghost use Rattle.ledger.specs.Calls.{closing_with};
 ghost use Rattle.energy.specs.Containment.{response_by_table};
 ghost use Rattle.energy.specs.Curve.{containment_curve, response};
-ghost use Rattle.energy.specs.Period.{answer_of};
-ghost use Rattle.bench.specs.Bench.{quantities, curve_of, curves_of, one_number, period_number, opened_record, closings, record_number};
+ghost use Rattle.bench.specs.Bench.{quantities, curve_of, curves_of, period_number, opened_record, closings, record_number};
 
+use common::{Directions, Refusal};
 use energy::containment::{response_by_table, response_from};
 use energy::curve::{Curve, Curves, Point, containment_curve, regulation_curve};
-use energy::period::{PeriodEnergy, period_energy, period_energy_by_table};
+use energy::period::{BySteps, ByTable, Way, period_energy};
+use ledger::Closing;
 use ledger_record::Record;
 use terms::{Quantities, Terms};
 
@@ -45,13 +46,11 @@ const RISING: Curve = Curve {
 fn curve_of(n: u32) -> Curve
     ensures { result ≡ curve_of n }
 {
-    if n == 1 {
-        return containment_curve();
+    match n {
+        1 => containment_curve(),
+        3 => RISING,
+        _ => regulation_curve(),
     }
-    if n == 3 {
-        return RISING;
-    }
-    regulation_curve()
 }
 
 fn curves_of(dc: u32, dm: u32, dr: u32) -> Curves
@@ -64,15 +63,21 @@ fn curves_of(dc: u32, dm: u32, dr: u32) -> Curves
     }
 }
 
-// Both bounds in one number, the low one times 2^32, or a refusal's number.
-fn energy_number(answer: PeriodEnergy) -> u64
-    ensures { result ≡ one_number (answer_of answer) }
+// Two numbers as one.
+fn one_number(a: u32, b: u32) -> u64
+    ensures { result ≡ a * 4294967296 + b }
 {
-    match answer {
-        PeriodEnergy::Bounds { low, high } => low as u64 * 4294967296 + high as u64,
-        PeriodEnergy::Quantity => 1,
-        PeriodEnergy::Curve => 5,
-        PeriodEnergy::Readings => 6,
+    a as u64 * 4294967296 + b as u64
+}
+
+// Both bounds in one number, the low one times 2^32, or a refusal's number, for the same quantities in both directions.
+fn period_number<W: Way>(q: Quantities, curves: Curves, readings: &[u16]) -> u64
+    ensures { result ≡ period_number q curves readings.now }
+{
+    let quantities = Directions { low: q, high: q };
+    match period_energy::<W>(quantities, curves, readings) {
+        Ok(bounds) => one_number(bounds.low, bounds.high),
+        Err(refusal) => refusal.number() as u64,
     }
 }
 
@@ -90,7 +95,7 @@ pub extern "C" fn bench_period(
 {
     let q = Quantities { dc, dm, dr };
     let curves = curves_of(dc_curve, dm_curve, dr_curve);
-    energy_number(period_energy(q, q, curves, readings))
+    period_number::<BySteps>(q, curves, readings)
 }
 
 #[unsafe(no_mangle)]
@@ -107,7 +112,7 @@ pub extern "C" fn bench_period_by_table(
 {
     let q = Quantities { dc, dm, dr };
     let curves = curves_of(dc_curve, dm_curve, dr_curve);
-    energy_number(period_energy_by_table(q, q, curves, readings))
+    period_number::<ByTable>(q, curves, readings)
 }
 
 #[unsafe(no_mangle)]
@@ -139,20 +144,10 @@ fn opened_record(mw: u32, size: u32, first: u32) -> Record
         export_limit: 2_000_000,
         import_limit: 2_000_000,
     };
-    let curve = curve_of(2);
-    let curves = Curves {
-        dc: curve,
-        dm: curve,
-        dr: curve,
-    };
-    ledger_record::open_record(t, curves, size, first).record
-}
-
-// Two numbers as one.
-fn one_number(a: u32, b: u32) -> u64
-    ensures { result ≡ a * 4294967296 + b }
-{
-    a as u64 * 4294967296 + b as u64
+    match ledger_record::open_record(t, curves_of(2, 2, 2), size, first) {
+        Ok(opened) => opened,
+        Err(_) => ledger_record::blank_record(),
+    }
 }
 
 // Opens a record and closes as many periods with the same arguments: the periods closed times 2^32, and the state.
@@ -170,15 +165,16 @@ pub extern "C" fn bench_closings(
 ) -> u64
     ensures { result ≡ record_number (closings count (opened_record mw size first) (closing_with purchase readings.now delivered taken trader)) }
 {
+    let asked = Closing {
+        purchase,
+        delivered,
+        taken,
+        trader,
+    };
     let mut after = opened_record(mw, size, first);
-    let mut i: u32 = 0;
-    while i < count {
-        let c = ledger::close_period(after, purchase, readings, delivered, taken, trader);
-        let answer = c.answer;
-        if ledger::close_number(answer) == 0 {
-            after = c.record;
-        }
-        i += 1;
+    for _i in 0..count {
+        // a refused closing counts too
+        let _ = ledger::close_period(&mut after, asked, readings);
     }
     one_number(after.closed, after.state)
 }

@@ -1,5 +1,5 @@
 -- Paper 01, "Report": a number as text, in ASCII: 32 is a blank, 45 a -, 48 to 57 are the digits. Assumes nothing.
-use Rattle.std.specs.Prelude.{Bool, true, false, cond, ◌&&◌, List, [], ◌∷◌, ◌++◌, ℕ, zero, suc, ◌+◌, ◌*◌, ◌-◌, ◌/◌, ◌%◌, eqb, leb, ltb, ℤ, pos, negsuc, length, drop, replicate}
+use Rattle.std.specs.Prelude.{Bool, true, false, cond, ◌&&◌, List, [], ◌∷◌, ◌++◌, ℕ, zero, suc, ◌+◌, ◌*◌, ◌-◌, ◌/◌, ◌%◌, eqb, leb, ltb, ℤ, pos, negsuc, Option, Some, None, length, drop, replicate}
 use Rattle.columns.specs.declared.Field.{Field}
 use Rattle.columns.specs.declared.Field.TheVariants.{Blank, Number, Malformed}
 
@@ -50,3 +50,9 @@ after f (b ∷ bs) = after (next f b) bs
 
 abbrev pub number : List ℕ → Field
 number = after Blank
+
+-- the number that columns hold, where they hold one
+abbrev pub number_in : Field → Option ℕ
+number_in Blank = None
+number_in (Number n) = Some n
+number_in Malformed = None

@@ -14,6 +14,18 @@ pub enum Field {
     Malformed,
 }
 
+impl Field {
+    // The number, where the columns hold one.
+    pub fn number(self) -> Option<u32>
+        ensures { result ≡ Number.number_in self }
+    {
+        match self {
+            Field::Number(n) => Some(n),
+            _ => None,
+        }
+    }
+}
+
 // ---- reading
 
 // One column more. Eight columns have a number below 100,000,000, so nine fit a u32.
@@ -43,30 +55,15 @@ fn next(f: Field, b: u8) -> Field
     }
 }
 
-// The number in the first nine columns; of a text that ends before them, in those that it has.
-fn read_number(text: &[u8]) -> Field
-    ensures { result ≡ Number.number (take 9 text.now) }
-{
-    let mut f = Field::Blank;
-    let mut i: usize = 0;
-    while i < 9 {
-        if text.len() <= i {
-            return f;
-        }
-        f = next(f, text[i]);
-        i += 1;
-    }
-    f
-}
-
 // The number in the nine columns of a line from `at` on; of a line that ends before them, in those that it has.
 pub fn number_at(line: &[u8], at: usize) -> Field
     ensures { result ≡ number_at at line.now }
 {
-    if line.len() <= at {
-        return Field::Blank;
+    let mut f = Field::Blank;
+    for b in line.iter().skip(at).take(9) {
+        f = next(f, *b);
     }
-    read_number(&line[at..])
+    f
 }
 
 // ---- printing
@@ -110,13 +107,12 @@ fn put(cell: &mut [u8], minus: bool, n: u64)
     if cell.len() == 0 {
         return;
     }
-    let mut i = cell.len() - 1;
-    cell[i] = 48 + (n % 10) as u8;
+    let last = cell.len() - 1;
+    cell[last] = 48 + (n % 10) as u8;
     let mut rest = n / 10;
     let mut due = minus;
-    while 0 < i {
+    for i in (0..last).rev() {
         let c = next_column(rest, due);
-        i -= 1;
         cell[i] = c.byte;
         rest = c.rest;
         due = c.minus;

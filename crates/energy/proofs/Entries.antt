@@ -1,5 +1,5 @@
--- The loop of `fill_by_entries`: below the entry d, the responses by a table were added; and what `fill_by_table` adds past the
--- last entry. Assumes nothing.
+-- The loop of `fill_by_table`: below the entry d, the responses by a table were added; and what is added past the last entry.
+-- Assumes nothing.
 use mathlib.Core.Path.{◌≡◌, refl, ◌∙◌}
 use mathlib.Core.List.{List}
 use Prim.Native.Nat.{ℕ, ◌+◌, ◌-◌, ◌*◌, ◌^◌, ◌≤◌, ◌<◌, min}
@@ -28,44 +28,45 @@ module _ (mw : ℕ) (entries : List ℕ) where
   last-serves : (d : ℕ) → 500 ≤ d → found 500 ≡ added d
   last-serves d h = let m : min d 500 ≡ 500 = omega arith in rw m
 
-  -- ---- the loop
+  -- ---- the loop, over the entries of the table that the other table has too
 
-  module _ (end : ℕ) (before : List ℕ) where
-    pub record Adding (table : List ℕ) (d : ℕ) : Type 0 where
-      pub long : length table ≡ length before
-      pub so_far : Added 0 d added before table
+  module _ (before : List ℕ) where
+    pub record Adding (near : List ℕ) (d : ℕ) : Type 0 where
+      pub long : length near ≡ length before
+      pub so_far : Added 0 d added before near
 
     pub begin : Adding before 0
     begin = record { long = refl; so_far = none-added 0 (λ d l h. absurd (omega arith)) }
 
-    module _ {table : List ℕ} {d : ℕ} (a : Adding table d) where
-      module _ (fits : TableFits mw entries end before) (near : d ≤ 500) (h : d < end) where
-        pub sum_fits : get_or table d 0 + found d < 2 ^ 32
-        sum_fits = omega (arith, found-is d near, a.so_far.above d (omega arith), fits.room d)
+    module _ {near : List ℕ} {d : ℕ} (a : Adding near d) (h : d < length before) (has : d ≤ 500) where
+      pub sum_fits : get_or before d 0 + added d < 2 ^ 32 → get_or near d 0 + found d < 2 ^ 32
+      sum_fits room = omega (arith, found-is d has, a.so_far.above d (omega arith), room)
 
-        pub turn : Adding (set table d (get_or table d 0 + found d)) (d + 1)
-        turn =
-            record {
-              long = simp length-set a.long;
-              so_far = rw (found-is d near) (one_more a.so_far (omega arith) (omega (arith, a.long, fits.there)));
-            }
+      pub turn : Adding (set near d (get_or near d 0 + found d)) (d + 1)
+      turn =
+          record {
+            long = simp length-set a.long;
+            so_far = rw (found-is d has) (one_more a.so_far (omega arith) (omega (arith, a.long)));
+          }
 
   -- ---- past the last entry
 
   abbrev pub flat-parts : ℕ
   flat-parts = first-parts (found 500)
 
-  module _ (end : ℕ) {before mid : List ℕ} (a : Added 0 (min end 501) added before mid) where
+  module _ {before mid : List ℕ} {n : ℕ} (is : n ≡ min (length before) 501) (a : Added 0 n added before mid) (long : length mid ≡ length before) where
     flat-at : (d : ℕ) → 501 ≤ d → wholes flat-parts 0 (d - 501) ≡ added d
     flat-at d h = start-value (2 ^ 32) (found 500) (d - 501) (omega arith) ∙ last-serves d (omega arith)
 
-    pub fill-fits : TableFits mw entries end before → length mid ≡ length before → FillFits flat-parts 0 501 end mid
-    fill-fits s long =
+    pub fill-fits : TableFits mw entries before → FillFits flat-parts 0 501 (length before) mid
+    fill-fits s =
         record {
-          there = omega (arith, s.there);
+          order = omega arith;
           parts_fit = omega (arith, s.room 500, found-is 500 (omega arith));
           room = λ d l m. omega (arith, flat-at d l, a.above d (omega arith), s.room d);
         }
 
-    pub filled : {after : List ℕ} → Added 501 end (λ (d : ℕ). wholes flat-parts 0 (d - 501)) mid after → Added 0 end added before after
-    filled b = then-added end 501 a (same-added b _ (λ d l m. flat-at d l)) (omega arith) (omega arith)
+    pub filled : {after : List ℕ} → Added 501 (min (length mid) (length before)) (λ (d : ℕ). wholes flat-parts 0 (d - 501)) mid after → Added 0 (length before) added before after
+    filled b =
+        let all : min (length mid) (length before) ≡ length before = omega arith in
+        then-added (length before) 501 (rw is at a) (same-added (rw all at b) _ (λ d l m. flat-at d l)) (omega arith) (omega arith)

@@ -2,8 +2,9 @@
 use mathlib.Core.Path.{◌≡◌, ◌∙◌}
 use mathlib.Core.List.{List}
 use Prim.Native.Nat.{ℕ, ◌+◌, ◌-◌, ◌*◌, ◌/◌, ◌^◌, ◌≤◌, ◌<◌, min}
-use native.Mathlib.Nat.{mul-add, mul_assoc, mul-le-mul, mul-le-mul_left, div-mul-le_self}
+use native.Mathlib.Nat.{mul-add, mul_assoc, mul-le-mul, div-mul-le_self}
 use native.Mathlib.Omega.{arith}
+use lib.ListN.{length}
 use Rattle.energy.specs.Curve.{between, response_to}
 use Rattle.energy.specs.Table.{Added, wholes, FillFits, SegmentFits}
 use Rattle.energy.specs.declared.curve.Point.{Point}
@@ -24,7 +25,7 @@ first-parts start = start * 2 ^ 32 + (2 ^ 32 - 1)
 abbrev step : ℕ → Point → Point → ℕ
 step factor p q = rise factor p q * 2 ^ 32 / width p q
 
-module _ {factor : ℕ} {p q : Point} {end : ℕ} {before : List ℕ} (h : SegmentFits factor p q end before) where
+module _ {factor : ℕ} {p q : Point} {before : List ℕ} (h : SegmentFits factor p q before) where
   pub top-le : factor * p.share + rise factor p q ≤ 1000000000
   top-le =
       let s : p.share + (q.share - p.share) ≤ 1000 = omega (arith, h.no_less, h.share_most) in
@@ -47,16 +48,15 @@ module _ {factor : ℕ} {p q : Point} {end : ℕ} {before : List ℕ} (h : Segme
       rw (added-at d l m)
       (between_le factor p q d (record { farther = h.farther; no_less = h.no_less }) (record { deviation-le = h.deviation_most; share-le = h.share_most }) l m)
 
-  pub fill-fits : FillFits (first-parts (factor * p.share)) (step factor p q) p.deviation (min end q.deviation) before
+  pub fill-fits : FillFits (first-parts (factor * p.share)) (step factor p q) p.deviation q.deviation before
   fill-fits =
-      let x : min end q.deviation - p.deviation ≤ width p q = omega arith in
       record {
-        there = omega (arith, h.there);
-        parts_fit = omega (arith, top-le, mul-le-mul_left (step factor p q) x, div-mul-le_self (rise factor p q * 2 ^ 32) (width p q));
-        room = λ d l m. omega (arith, h.room d l, added-le d l (omega arith));
+        order = omega (arith, h.farther);
+        parts_fit = omega (arith, top-le, div-mul-le_self (rise factor p q * 2 ^ 32) (width p q));
+        room = λ d l m. omega (arith, h.room d l, added-le d l m);
       }
 
   pub filled : {after : List ℕ} →
-      Added p.deviation (min end q.deviation) (λ (d : ℕ). wholes (first-parts (factor * p.share)) (step factor p q) (d - p.deviation)) before after →
-      Added p.deviation (min end q.deviation) (λ (d : ℕ). response_to factor (between p q d)) before after
+      Added p.deviation (min (length before) q.deviation) (λ (d : ℕ). wholes (first-parts (factor * p.share)) (step factor p q) (d - p.deviation)) before after →
+      Added p.deviation (min (length before) q.deviation) (λ (d : ℕ). response_to factor (between p q d)) before after
   filled a = same-added a _ (λ d l m. added-at d l (omega arith))

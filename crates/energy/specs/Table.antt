@@ -1,6 +1,6 @@
 -- What the private functions of table.rt ask and make: a period's energy by a table of responses for each direction; and paper 02,
 -- No. 3: the sums from the last reading back. Assumes nothing.
-use Rattle.std.specs.Prelude.{◌≡◌, true, List, [], ◌∷◌, map, ℕ, ◌+◌, ◌-◌, ◌*◌, ◌/◌, ◌^◌, ◌≤◌, ◌<◌, max, length, get_or, drop}
+use Rattle.std.specs.Prelude.{◌≡◌, true, List, [], ◌∷◌, map, ℕ, ◌+◌, ◌-◌, ◌*◌, ◌/◌, ◌^◌, ◌≤◌, ◌<◌, min, max, length, get_or, drop}
 use Rattle.common.specs.Lists.{sum}
 use Rattle.terms.specs.Terms.{Q, Quantities}
 use Rattle.common.specs.declared.Directions.{Directions}
@@ -40,33 +40,30 @@ Room more table = (d : ℕ) → get_or table d 0 + more < 2 ^ 32
 abbrev pub wholes : ℕ → ℕ → ℕ → ℕ
 wholes first step x = (first + step * x) / 2 ^ 32
 
--- `fill`: the entries are there, the parts stay a u64, and what is added fits
-pub record FillFits (first step from end : ℕ) (table : List ℕ) : Type 0 where
-  pub there : end ≤ length table
-  pub parts_fit : first + step * (end - from) < 2 ^ 64
-  pub room : (d : ℕ) → from ≤ d → d < end → get_or table d 0 + wholes first step (d - from) < 2 ^ 32
+-- `fill`: the entries, as far as the table goes, stand in order, the parts stay a u64, and what is added fits
+pub record FillFits (first step from to : ℕ) (table : List ℕ) : Type 0 where
+  pub order : min (length table) from ≤ to
+  pub parts_fit : first + step * (to - from) < 2 ^ 64
+  pub room : (d : ℕ) → from ≤ d → d < to → get_or table d 0 + wholes first step (d - from) < 2 ^ 32
 
 -- `fill_segment`: a factor of which 1,000 per mille are a u32, two points as the rule has them, and room from the first on
-pub record SegmentFits (factor : ℕ) (p q : Point) (end : ℕ) (table : List ℕ) : Type 0 where
+pub record SegmentFits (factor : ℕ) (p q : Point) (table : List ℕ) : Type 0 where
   pub factor_most : factor ≤ 1000000
   pub farther : p.deviation < q.deviation
   pub no_less : p.share ≤ q.share
   pub deviation_most : q.deviation ≤ 3000
   pub share_most : q.share ≤ 1000
-  pub there : end ≤ length table
   pub room : (d : ℕ) → p.deviation ≤ d → get_or table d 0 + 1000 * factor < 2 ^ 32
 
 -- `fill_by_steps`, and for 1,000 times its MW `fill_service`: a curve that keeps its rule, and room for 1,000 per mille of such a factor
-pub record ServiceFits (factor : ℕ) (c : Curve) (end : ℕ) (table : List ℕ) : Type 0 where
+pub record ServiceFits (factor : ℕ) (c : Curve) (table : List ℕ) : Type 0 where
   pub factor_most : factor ≤ 1000000
   pub rule : curve_rule c ≡ true
-  pub there : end ≤ length table
   pub room : Room (1000 * factor) table
 
--- `fill_by_table` and `fill_by_entries`: at most 1,000 MW, and room for the responses by a table
-pub record TableFits (mw : ℕ) (entries : List ℕ) (end : ℕ) (table : List ℕ) : Type 0 where
+-- `fill_by_table`: at most 1,000 MW, and room for the responses by a table
+pub record TableFits (mw : ℕ) (entries : List ℕ) (table : List ℕ) : Type 0 where
   pub mw_most : mw ≤ 1000
-  pub there : end ≤ length table
   pub room : (d : ℕ) → get_or table d 0 + response_by_table entries mw d < 2 ^ 32
 
 -- `fill_direction`: at most 1,000 MW, curves that keep their rule, and room for all of it

@@ -12,7 +12,7 @@ use crate::table::fill_by_steps;
 pub(crate) fn response_by_entry(factor: u32, entry: u32) -> u64
     ensures { result ≡ rounded_up (factor * entry) 11100 }
 {
-    (factor as u64 * entry as u64 + 11099) / 11100
+    (u64::from(factor) * u64::from(entry) + 11099) / 11100
 }
 
 // The same for 1,000 times a quantity. A u64 has no room for 1,000 times the product of any two u32, so the product's quotient by
@@ -20,7 +20,7 @@ pub(crate) fn response_by_entry(factor: u32, entry: u32) -> u64
 fn watts_by_entry(mw: u32, entry: u32) -> u64
     ensures { result ≡ rounded_up (1000 * mw * entry) 11100 }
 {
-    let product = mw as u64 * entry as u64;
+    let product = u64::from(mw) * u64::from(entry);
     product / 11100 * 1000 + response_by_entry(1000, (product % 11100) as u32)
 }
 
@@ -29,7 +29,7 @@ fn watts_by_entry(mw: u32, entry: u32) -> u64
 pub fn response_from(table: &[u32; 501], mw: u32, deviation: u16) -> u64
     ensures { result ≡ response_by_table table.now mw deviation }
 {
-    let place = (deviation as u64).min(500) as usize;
+    let place = usize::from(deviation).min(500);
     watts_by_entry(mw, table[place])
 }
 
@@ -53,6 +53,6 @@ pub fn interpolated_table() -> [u32; 501]
     ensures { table_rule result ≡ true }
 {
     let mut table = [0u32; 501];
-    fill_by_steps(11100, containment_curve(), 501, &mut table);
+    fill_by_steps(11100, containment_curve(), &mut table);
     table
 }

@@ -37,7 +37,7 @@ impl Curve {
     pub fn points(&self) -> &[Point]
         ensures { result.now ≡ points_of self.now }
     {
-        &self.points[..(self.count as usize).min(5)]
+        &self.points[..usize::from(self.count).min(5)]
     }
 }
 

@@ -75,29 +75,34 @@ fn period_kwh(sum: u64, count: usize) -> u32
     ((sum + (divisor - 1)) / divisor) as u32
 }
 
-// Refusal 6 or both bounds, where quantities and curves are good.
-fn from_readings<W: Way>(
-    quantities: Directions<Quantities>,
-    curves: Curves,
-    readings: &[u16],
-) -> Result<Directions<u32>, EnergyRefusal>
-    requires { BeforeReadings quantities.low quantities.high curves }
-    ensures { answer_of result ≡ from_readings quantities.low quantities.high curves readings.now }
-{
-    let count = readings.len();
-    if !is_period_count(count) {
-        return Err(EnergyRefusal::Readings);
+// What refusals 1 and 5 let through.
+#[derive(Clone, Copy)]
+pub(crate) struct Accepted {
+    pub(crate) quantities: Directions<Quantities>,
+    pub(crate) curves: Curves,
+    ghost let_through: { BeforeReadings quantities.low quantities.high curves },
+}
+
+impl Accepted {
+    // Refusal 6 or both bounds.
+    fn from_readings<W: Way>(self, readings: &[u16]) -> Result<Directions<u32>, EnergyRefusal>
+        ensures { answer_of result ≡ from_readings self.quantities.low self.quantities.high self.curves readings.now }
+    {
+        let count = readings.len();
+        if !is_period_count(count) {
+            return Err(EnergyRefusal::Readings);
+        }
+        // a reading is 47,000 to 53,000: within 3,000 of 50,000
+        let most = largest_deviations(readings);
+        if (3000 < most.low) | (3000 < most.high) {
+            return Err(EnergyRefusal::Readings);
+        }
+        let sums = sum_responses::<W>(self, most, readings);
+        Ok(Directions {
+            low: period_kwh(sums.low, count),
+            high: period_kwh(sums.high, count),
+        })
     }
-    // a reading is 47,000 to 53,000: within 3,000 of 50,000
-    let most = largest_deviations(readings);
-    if (3000 < most.low) | (3000 < most.high) {
-        return Err(EnergyRefusal::Readings);
-    }
-    let sums = sum_responses::<W>(quantities, curves, most, readings);
-    Ok(Directions {
-        low: period_kwh(sums.low, count),
-        high: period_kwh(sums.high, count),
-    })
 }
 
 // Both directions' bounds of a period.
@@ -116,5 +121,6 @@ pub fn period_energy<W: Way>(
     if curve {
         return Err(EnergyRefusal::Curve);
     }
-    from_readings::<W>(quantities, curves, readings)
+    let accepted = Accepted { quantities, curves };
+    accepted.from_readings::<W>(readings)
 }

@@ -1,13 +1,13 @@
 // Period energy in three passes: the largest deviations, a table of each direction's responses by deviation, and the sums.
-ghost use Rattle.std.specs.Prelude.{◌≡◌, ℕ, ◌+◌, ◌-◌, ◌*◌, ◌^◌, ◌≤◌, min};
+ghost use Rattle.std.specs.Prelude.{◌≡◌, ℕ, ◌+◌, ◌-◌, ◌*◌, ◌^◌, min, length};
 ghost use Rattle.energy.specs.Curve.{points_of, between, share_at, response_to, response};
 ghost use Rattle.energy.specs.Containment.{response_by_table};
-ghost use Rattle.energy.specs.Period.{high_deviation, responses, BeforeReadings};
+ghost use Rattle.energy.specs.Period.{high_deviation, responses};
 ghost use Rattle.energy.specs.Table.{largest_deviations, Added, wholes, FillFits, SegmentFits, ServiceFits, TableFits, DirectionFits, table_sums, Covered, response_sums, WithinRange};
 
 use crate::containment::response_by_entry;
 use crate::curve::{Curve, Curves, Point};
-use crate::period::Way;
+use crate::period::{Accepted, Way};
 use common::Directions;
 use terms::Quantities;
 
@@ -29,16 +29,18 @@ pub(crate) fn largest_deviations(readings: &[u16]) -> Directions<u16>
     }
 }
 
-// ---- a table of responses
+// ---- a table of responses: its entries are those to the deviations from 0 on
 
-// Adds to the entries from `from` up to `end` the whole ones of some parts, which rise by a step from entry to entry.
-fn fill(first: u64, step: u64, from: usize, end: usize, table: &mut [u32])
-    requires { FillFits first step from end table.old }
-    ensures { Added from end (λ (d : ℕ). wholes first step (d - from)) table.old table.new }
+// Adds to the entries from one up to another, as far as the table goes, the whole ones of some parts, which rise by a step from entry
+// to entry.
+fn fill(first: u64, step: u64, from: usize, to: usize, table: &mut [u32])
+    requires { FillFits first step from to table.old }
+    ensures { Added from (min (length table.old) to) (λ (d : ℕ). wholes first step (d - from)) table.old table.new }
 {
+    let end = table.len();
     let mut parts = first;
-    for d in from..end {
-        table[d] += (parts / 4294967296) as u32;
+    for entry in &mut table[end.min(from)..end.min(to)] {
+        *entry += (parts / 4294967296) as u32;
         parts += step;
     }
 }
@@ -47,81 +49,73 @@ fn fill(first: u64, step: u64, from: usize, end: usize, table: &mut [u32])
 fn parts_of(response: u32) -> u64
     ensures { result ≡ response * 2 ^ 32 + (2 ^ 32 - 1) }
 {
-    response as u64 * 4294967296 + 4294967295
+    u64::from(response) * 4294967296 + 4294967295
 }
 
 // Adds a factor times the share between two points of a curve. The one division is that of the step:
 // the parts that it cuts off are too few, over 3,000 deviations, to change what is added.
-fn fill_segment(factor: u32, p: Point, q: Point, end: usize, table: &mut [u32])
-    requires { SegmentFits factor p q end table.old }
-    ensures { Added p.deviation (min end q.deviation) (λ (d : ℕ). response_to factor (between p q d)) table.old table.new }
+fn fill_segment(factor: u32, p: Point, q: Point, table: &mut [u32])
+    requires { SegmentFits factor p q table.old }
+    ensures { Added p.deviation (min (length table.old) q.deviation) (λ (d : ℕ). response_to factor (between p q d)) table.old table.new }
 {
-    let width = (q.deviation - p.deviation) as u64;
-    let rise = factor as u64 * (q.share - p.share) as u64;
+    let width = u64::from(q.deviation - p.deviation);
+    let rise = u64::from(factor) * u64::from(q.share - p.share);
     fill(
-        parts_of(factor * p.share as u32),
+        parts_of(factor * u32::from(p.share)),
         rise * 4294967296 / width,
-        p.deviation as usize,
-        end.min(q.deviation as usize),
+        usize::from(p.deviation),
+        usize::from(q.deviation),
         table,
     );
 }
 
-// Adds a factor times a curve's share at each deviation below an end, by steps from point to point.
-pub(crate) fn fill_by_steps(factor: u32, curve: Curve, end: usize, table: &mut [u32])
-    requires { ServiceFits factor curve end table.old }
-    ensures { Added 0 end (λ (d : ℕ). response_to factor (share_at (points_of curve) d)) table.old table.new }
+// Adds a factor times a curve's share, by steps from point to point.
+pub(crate) fn fill_by_steps(factor: u32, curve: Curve, table: &mut [u32])
+    requires { ServiceFits factor curve table.old }
+    ensures { Added 0 (length table.old) (λ (d : ℕ). response_to factor (share_at (points_of curve) d)) table.old table.new }
 {
     let points = curve.points();
     let others = &points[1..];
     let mut last = points[0];
     for next in others {
-        fill_segment(factor, last, *next, end, table);
+        fill_segment(factor, last, *next, table);
         last = *next;
     }
+    let end = table.len();
     fill(
-        parts_of(factor * last.share as u32),
+        parts_of(factor * u32::from(last.share)),
         0,
-        last.deviation as usize,
+        usize::from(last.deviation),
         end,
         table,
     );
 }
 
-// Adds the responses by a table to each deviation below an end, which the table has.
-fn fill_by_entries(mw: u32, entries: &[u32; 501], end: usize, table: &mut [u32])
-    requires { TableFits mw entries.now end table.old × end ≤ 501 }
-    ensures { Added 0 end (response_by_table entries.now mw) table.old table.new }
+// Adds the responses by a table: entry 500 serves for larger deviations.
+fn fill_by_table(mw: u32, entries: &[u32; 501], table: &mut [u32])
+    requires { TableFits mw entries.now table.old }
+    ensures { Added 0 (length table.old) (response_by_table entries.now mw) table.old table.new }
 {
     let factor = 1000 * mw;
-    for d in 0..end {
-        table[d] += response_by_entry(factor, entries[d]) as u32;
+    let end = table.len();
+    for (d, entry) in table[..end.min(501)].iter_mut().enumerate() {
+        *entry += response_by_entry(factor, entries[d]) as u32;
     }
-}
-
-// Adds the responses by a table to each deviation below an end: entry 500 serves for larger deviations.
-fn fill_by_table(mw: u32, entries: &[u32; 501], end: usize, table: &mut [u32])
-    requires { TableFits mw entries.now end table.old }
-    ensures { Added 0 end (response_by_table entries.now mw) table.old table.new }
-{
-    let factor = 1000 * mw;
-    let near = end.min(501);
-    fill_by_entries(mw, entries, near, table);
     let last = response_by_entry(factor, entries[500]) as u32;
     fill(parts_of(last), 0, 501, end, table);
 }
 
 // Adds the responses of a service, in watts.
-fn fill_service<W: Way>(mw: u32, curve: Curve, end: usize, table: &mut [u32])
-    requires { ServiceFits (1000 * mw) curve end table.old }
-    ensures { Added 0 end (response mw curve) table.old table.new }
+fn fill_service<W: Way>(mw: u32, curve: Curve, table: &mut [u32])
+    requires { ServiceFits (1000 * mw) curve table.old }
+    ensures { Added 0 (length table.old) (response mw curve) table.old table.new }
 {
     if mw == 0 {
         return;
     }
     match W::table_for(curve) {
-        Some(entries) => fill_by_table(mw, &entries, end, table),
-        None => fill_by_steps(1000 * mw, curve, end, table),
+        Some(entries) => fill_by_table(mw, &entries, table),
+        None => fill_by_steps(1000 * mw, curve, table),
     }
 }
 
@@ -130,10 +124,10 @@ fn fill_direction<W: Way>(q: Quantities, curves: Curves, most: u16, table: &mut 
     requires { DirectionFits q curves most table.old }
     ensures { Added 0 (most + 1) (responses q curves) table.old table.new }
 {
-    let end = most as usize + 1;
-    fill_service::<W>(q.dc, curves.dc, end, table);
-    fill_service::<W>(q.dm, curves.dm, end, table);
-    fill_service::<W>(q.dr, curves.dr, end, table);
+    let entries = &mut table[..=usize::from(most)];
+    fill_service::<W>(q.dc, curves.dc, entries);
+    fill_service::<W>(q.dm, curves.dm, entries);
+    fill_service::<W>(q.dr, curves.dr, entries);
 }
 
 // ---- the sums
@@ -165,14 +159,15 @@ fn sum_table(lows: &[u32], highs: &[u32], readings: &[u16]) -> Directions<u64>
 
 // The sums of both directions' responses, by a table of each up to its largest deviation.
 pub(crate) fn sum_responses<W: Way>(
-    quantities: Directions<Quantities>,
-    curves: Curves,
+    accepted: Accepted,
     most: Directions<u16>,
     readings: &[u16],
 ) -> Directions<u64>
-    requires { BeforeReadings quantities.low quantities.high curves × WithinRange most readings.now }
-    ensures { result ≡ response_sums quantities.low quantities.high curves readings.now }
+    requires { WithinRange most readings.now }
+    ensures { result ≡ response_sums accepted.quantities.low accepted.quantities.high accepted.curves readings.now }
 {
+    let quantities = accepted.quantities;
+    let curves = accepted.curves;
     let mut lows = [0u32; 3001];
     let mut highs = [0u32; 3001];
     fill_direction::<W>(quantities.low, curves, most.low, &mut lows);

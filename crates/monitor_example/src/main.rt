@@ -2,13 +2,17 @@
 // 0 in each period for the high one.
 #![tactic(auto)]
 
-use monitor::Row;
+use common::Refusal;
+use monitor::{MonitorRefusal, Row};
 use std::io;
 use terms::Quantities;
 
-fn write_rows(rt: &impl Print, rows: [Row; 8]) -> io::Result<()> {
-    let table = report::table_of(rows);
-    rt.write_all(&table)
+// The table; of a refusal its number in nine columns.
+fn show(rt: &impl Print, answer: Result<[Row; 8], MonitorRefusal>) -> io::Result<()> {
+    match answer {
+        Ok(rows) => rt.write_all(&report::table_of(rows)),
+        Err(refusal) => println!(rt; "{:>9}", refusal.number()),
+    }
 }
 
 fn main(rt: HostRuntime) -> io::Result<()> {
@@ -21,8 +25,7 @@ fn main(rt: HostRuntime) -> io::Result<()> {
         [15000, 12000, 20000, 40000, 30000, 4000, 5000, 1000],
         [100000, 85000, 72999, 53000, 20000, 0, 6000, 21000],
     );
-    let rows = low.rows;
-    write_rows(&rt, rows)?;
+    show(&rt, low)?;
     let high = monitor::monitor(
         Quantities {
             dc: 40,
@@ -32,6 +35,5 @@ fn main(rt: HostRuntime) -> io::Result<()> {
         [0, 1000, 8000, 2000, 0, 0, 0, 0],
         [0; 8],
     );
-    let rows = high.rows;
-    write_rows(&rt, rows)
+    show(&rt, high)
 }

@@ -4,17 +4,13 @@
 // the check and the part of such a block.
 #![tactic(auto)]
 
-use energy::block::{BlockCheck, check_block, part};
+use common::{Directions, Refusal};
+use energy::block::{check_block, part};
 use energy::curve::{Curves, containment_curve, regulation_curve};
-use energy::period::{PeriodEnergy, number, period_energy};
+use energy::period::{BySteps, period_energy};
 use energy::rate::{BLOCK_AT_TWENTY, BLOCK_AT_TWO, PERIOD_AT_TWENTY, PERIOD_AT_TWO};
 use std::io;
 use terms::Quantities;
-
-fn write_number(rt: &impl Print, n: u64) -> io::Result<()> {
-    let line = columns::number_line(n);
-    rt.write_all(&line)
-}
 
 // Both bounds, or a refusal's number.
 fn write_bounds(rt: &impl Print, readings: &[u16]) -> io::Result<()> {
@@ -28,33 +24,30 @@ fn write_bounds(rt: &impl Print, readings: &[u16]) -> io::Result<()> {
         dm: regulation_curve(),
         dr: regulation_curve(),
     };
-    let answer = period_energy(q, q, curves, readings);
-    match answer {
-        PeriodEnergy::Bounds { low, high } => {
-            write_number(rt, low as u64)?;
-            write_number(rt, high as u64)
+    match period_energy::<BySteps>(Directions { low: q, high: q }, curves, readings) {
+        Ok(bounds) => {
+            println!(rt; "{:>9}", bounds.low)?;
+            println!(rt; "{:>9}", bounds.high)
         }
-        _ => write_number(rt, number(answer) as u64),
+        Err(refusal) => println!(rt; "{:>9}", refusal.number()),
     }
 }
 
 // Period and place, or nothing for a good block.
 fn write_check(rt: &impl Print, block: &[u16]) -> io::Result<()> {
-    match check_block(block) {
-        BlockCheck::Good => Ok(()),
-        BlockCheck::Bad { period, place } => {
-            write_number(rt, period as u64)?;
-            write_number(rt, place as u64)
-        }
+    if let Err(bad) = check_block(block) {
+        println!(rt; "{:>9}", bad.period)?;
+        println!(rt; "{:>9}", bad.place)?;
     }
+    Ok(())
 }
 
 fn write_part(rt: &impl Print, block: &[u16], period: u32) -> io::Result<()> {
     let readings = part(block, period);
-    if 0 < readings.len() {
-        write_number(rt, readings[0] as u64)?;
+    if let Some(first) = readings.first() {
+        println!(rt; "{:>9}", *first)?;
     }
-    write_number(rt, readings.len() as u64)
+    println!(rt; "{:>9}", readings.len())
 }
 
 // The first reading of period 2 differs from the others, and the one at place 13 is bad.

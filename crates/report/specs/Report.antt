@@ -1,14 +1,15 @@
 -- Paper 01, "Report": from the input's bytes and a lent output to an answer and every byte of the output afterwards.
 -- Assumes nothing.
-use Rattle.std.specs.Prelude.{not, List, [], ◌∷◌, ◌++◌, ℕ, ltb, length, drop}
+use Rattle.std.specs.Prelude.{not, List, [], ◌∷◌, ◌++◌, ℕ, Result, Ok, Err, ltb, length, drop}
 use Rattle.common.specs.Answer.{Answer, refused, given, or_blank, Cause, cause, checked}
 use Rattle.terms.specs.Terms.{REV, ER}
 use Rattle.monitor.specs.Monitor.{monitor_causes, rows_of}
 use Rattle.report.specs.Input.{well_formed, input_of}
 use Rattle.report.specs.Output.{table}
 use Rattle.report.specs.declared.Input.{Input}
-use Rattle.report.specs.declared.ReportAnswer.{ReportAnswer}
-use Rattle.report.specs.declared.ReportAnswer.TheVariants.{Written, Malformed, Quantity, Bound, Reported, Short}
+use Rattle.monitor.specs.declared.MonitorRefusal.{MonitorRefusal}
+use Rattle.report.specs.declared.ReportRefusal.{ReportRefusal}
+use Rattle.report.specs.declared.ReportRefusal.TheVariants.{Malformed, Quantity, Bound, Reported, Short}
 
 -- 13, the monitor's 1, 7, 11, then 14
 unfoldable pub report_causes : List ℕ → List ℕ → List Cause
@@ -28,11 +29,21 @@ reporting input output = checked (report_causes input output) (written (input_of
 abbrev pub output_after : List ℕ → List ℕ → List ℕ
 output_after input output = or_blank output (reporting input output)
 
--- the number, or what is given, of each case of the code's answer
-abbrev pub answer_with : {A : Type 0} → ReportAnswer → A → Answer A
-answer_with Written a = given a
-answer_with Malformed a = refused 13
-answer_with Quantity a = refused 1
-answer_with Bound a = refused 7
-answer_with Reported a = refused 11
-answer_with Short a = refused 14
+-- the number of each of the code's refusals
+abbrev pub refusal_number : ReportRefusal → ℕ
+refusal_number Malformed = 13
+refusal_number Quantity = 1
+refusal_number Bound = 7
+refusal_number Reported = 11
+refusal_number Short = 14
+
+-- a refusal of the monitor is one of the report
+abbrev pub monitor_refusal : MonitorRefusal → ReportRefusal
+monitor_refusal MonitorRefusal.Quantity = Quantity
+monitor_refusal MonitorRefusal.Bound = Bound
+monitor_refusal MonitorRefusal.Reported = Reported
+
+-- where nothing is refused, a is given
+abbrev pub answer_of : {A : Type 0} → Result Unit ReportRefusal → A → Answer A
+answer_of (Ok done) a = given a
+answer_of (Err refusal) a = refused (refusal_number refusal)

@@ -1,19 +1,18 @@
 // The report: text in, table out.
 #![tactic(auto)]
 
-ghost use Rattle.std.specs.Prelude.{◌≡◌, ◌++◌, ◌+◌, ◌^◌, ◌<◌, ◌≤◌, length, drop, replicate};
-ghost use Rattle.common.specs.Answer.{number_of};
-ghost use Rattle.report.specs.Input.{terms_of, energies_of, line_at, MovedOn, lines_of, no_input, input_of};
+ghost use Rattle.std.specs.Iterator.{at_most};
+ghost use Rattle.std.specs.Prelude.{◌-◌, ◌≡◌, ◌++◌, ◌+◌, ◌^◌, ◌<◌, ◌≤◌, length, drop, replicate};
+ghost use Rattle.report.specs.Input.{terms_of, energies_of, MovedOn, parsed};
 ghost use Rattle.report.specs.Output as Output;
 ghost use Rattle.report.specs.Report as Report;
 
-use columns::Field;
-use monitor::Row;
+use common::Refusal;
+use monitor::{MonitorRefusal, Row};
 use terms::Quantities;
 
-#[derive(Clone, Copy)]
-pub enum ReportAnswer {
-    Written,
+#[derive(Clone, Copy, Debug, PartialEq, Eq)]
+pub enum ReportRefusal {
     // The text is malformed.
     Malformed,
     // The direction is above 1,000 MW, or its quantity is 0.
@@ -26,184 +25,142 @@ pub enum ReportAnswer {
     Short,
 }
 
-// What a line says.
-#[derive(Clone, Copy)]
-enum Line {
-    // Line 1.
-    Terms { dc: u32, dm: u32, dr: u32 },
-    // One of lines 2 to 9.
-    Energies { bound: u32, reported: u32 },
-    Malformed,
+impl Refusal for ReportRefusal {
+    ghost refusal = { Report.refusal_number };
+
+    fn number(self) -> u32 {
+        match self {
+            ReportRefusal::Malformed => 13,
+            ReportRefusal::Quantity => 1,
+            ReportRefusal::Bound => 7,
+            ReportRefusal::Reported => 11,
+            ReportRefusal::Short => 14,
+        }
+    }
 }
 
-// What a text says; good: it is well-formed.
+impl From<MonitorRefusal> for ReportRefusal {
+    ghost from_gives = { λ of_monitor refusal. refusal ≡ Report.monitor_refusal of_monitor };
+
+    fn from(of_monitor: MonitorRefusal) -> ReportRefusal {
+        match of_monitor {
+            MonitorRefusal::Quantity => ReportRefusal::Quantity,
+            MonitorRefusal::Bound => ReportRefusal::Bound,
+            MonitorRefusal::Reported => ReportRefusal::Reported,
+        }
+    }
+}
+
+// What a well-formed text says.
 #[derive(Clone, Copy)]
 struct Input {
-    good: bool,
     quantities: Quantities,
     bounds: [u32; 8],
     reported: [u32; 8],
 }
 
-// Line 1, with its line feed.
+// What one of lines 2 to 9 says.
+#[derive(Clone, Copy)]
+struct Energies {
+    bound: u32,
+    reported: u32,
+}
+
+// The quantities of line 1, with its line feed; nothing where it is malformed.
 #[tactic(auto, unfolding(crate::specs::Input::terms_of))]
-fn read_terms(line: &[u8]) -> Line
+fn read_terms(line: &[u8]) -> Option<Quantities>
     requires { length line.now ≡ 37 }
     ensures { result ≡ terms_of line.now }
 {
-    let Field::Number(direction) = columns::number_at(line, 0) else {
-        return Line::Malformed;
-    };
-    let Field::Number(dc) = columns::number_at(line, 9) else {
-        return Line::Malformed;
-    };
-    let Field::Number(dm) = columns::number_at(line, 18) else {
-        return Line::Malformed;
-    };
-    let Field::Number(dr) = columns::number_at(line, 27) else {
-        return Line::Malformed;
-    };
+    let direction = columns::number_at(line, 0).number()?;
+    let dc = columns::number_at(line, 9).number()?;
+    let dm = columns::number_at(line, 18).number()?;
+    let dr = columns::number_at(line, 27).number()?;
     if (line[36] == 10) & ((direction == 1) | (direction == 2)) {
-        return Line::Terms { dc, dm, dr };
+        return Some(Quantities { dc, dm, dr });
     }
-    Line::Malformed
+    None
 }
 
-// One of lines 2 to 9, with its line feed.
+// One of lines 2 to 9, with its line feed; nothing where it is malformed.
 #[tactic(auto, unfolding(crate::specs::Input::energies_of))]
-fn read_energies(line: &[u8]) -> Line
+fn read_energies(line: &[u8]) -> Option<Energies>
     requires { length line.now ≡ 19 }
     ensures { result ≡ energies_of line.now }
 {
-    let Field::Number(bound) = columns::number_at(line, 0) else {
-        return Line::Malformed;
-    };
-    let Field::Number(reported) = columns::number_at(line, 9) else {
-        return Line::Malformed;
-    };
+    let bound = columns::number_at(line, 0).number()?;
+    let reported = columns::number_at(line, 9).number()?;
     if line[18] == 10 {
-        return Line::Energies { bound, reported };
+        return Some(Energies { bound, reported });
     }
-    Line::Malformed
+    None
 }
 
-// Line n; malformed where the text has none.
-#[tactic(auto, unfolding(crate::specs::Input::line_at))]
-fn line_at(text: &[u8], n: usize) -> Line
-    ensures { result ≡ line_at text.now n }
-{
-    if (n < 1) | (text.len() < 37) {
-        return Line::Malformed;
-    }
-    if n == 1 {
-        return read_terms(&text[0..37]);
-    }
-    let before = n - 2;
-    if (text.len() - 37) / 19 <= before {
-        return Line::Malformed;
-    }
-    let at = 37 + 19 * before;
-    read_energies(&text[at..at + 19])
-}
-
-fn no_lines() -> [Line; 9]
-    ensures { result ≡ replicate 9 Line.Malformed }
-{
-    [Line::Malformed; 9]
-}
-
-// A reader keeps the text and the next line's number together.
+// An iterator over the lines of a text, from line `line` on: line 1 has 37 bytes, each line after it 19.
 #[derive(Clone, Copy)]
 struct Reader<'a> {
     text: &'a [u8],
     line: usize,
 }
 
-// Before line 1.
-fn reader_of<'a>(text: &'a [u8]) -> Reader<'a>
-    ensures { (result.text ≡ text.entry) × (result.line ≡ 1) }
-{
-    Reader { text, line: 1 }
-}
-
-// Gives the next line and moves the reader on.
-fn next_line<'s, 'a>(r: &'s mut Reader<'a>) -> Line
-    requires { r.old.line + 1 < 2 ^ 64 }
-    ensures { MovedOn r.old r.new result }
-{
-    let line = line_at(r.text, r.line);
-    r.line = r.line + 1;
-    line
-}
-
-// The text's nine lines, by one reader.
-fn read_lines(text: &[u8]) -> [Line; 9]
-    ensures { result ≡ lines_of text.now }
-{
-    let mut reader = reader_of(text);
-    let mut lines = no_lines();
-    let mut i: usize = 0;
-    while i < 9 {
-        lines[i] = next_line(&mut reader);
-        i += 1;
-    }
-    lines
-}
-
-fn malformed() -> Input
-    ensures { result ≡ no_input }
-{
-    Input {
-        good: false,
-        quantities: Quantities {
-            dc: 0,
-            dm: 0,
-            dr: 0,
-        },
-        bounds: [0; 8],
-        reported: [0; 8],
+impl<'a> Reader<'a> {
+    // Before line 1.
+    fn of(text: &'a [u8]) -> Reader<'a>
+        ensures { (result.text ≡ text.entry) × (result.line ≡ 1) }
+    {
+        Reader { text, line: 1 }
     }
 }
 
-fn parse(text: &[u8]) -> Input
-    ensures { result ≡ input_of text.now }
+impl<'a> Iterator for Reader<'a> {
+    type Item = &'a [u8];
+
+    ghost next_gives = { MovedOn };
+
+    ghost remaining = { λ s. at_most (length s.text.now - s.line) };
+
+    // The next line; nothing where the text ends before the line does.
+    fn next(&mut self) -> Option<&'a [u8]> {
+        let text = self.text;
+        let n = self.line;
+        if n == 0 || text.len() < 37 {
+            return None;
+        }
+        if n == 1 {
+            self.line = n + 1;
+            return Some(&text[..37]);
+        }
+        let before = n - 2;
+        if (text.len() - 37) / 19 <= before {
+            return None;
+        }
+        let at = 37 + 19 * before;
+        self.line = n + 1;
+        Some(&text[at..at + 19])
+    }
+}
+
+// What a text says; nothing where it is malformed.
+fn parse(text: &[u8]) -> Option<Input>
+    ensures { result ≡ parsed text.now }
 {
     if text.len() != 189 {
-        return malformed();
+        return None;
     }
-    let lines = read_lines(text);
-    let first = lines[0];
-    let Line::Terms { dc, dm, dr } = first else {
-        return malformed();
-    };
+    let mut reader = Reader::of(text);
+    let quantities = read_terms(reader.next()?)?;
     let mut bounds = [0u32; 8];
     let mut reported = [0u32; 8];
-    let mut i: usize = 0;
-    while i < 8 {
-        let line = lines[i + 1];
-        let Line::Energies {
-            bound: b,
-            reported: r,
-        } = line
-        else {
-            return malformed();
-        };
-        bounds[i] = b;
-        reported[i] = r;
-        i += 1;
+    for i in 0..8 {
+        let energies = read_energies(reader.next()?)?;
+        bounds[i] = energies.bound;
+        reported[i] = energies.reported;
     }
-    Input {
-        good: true,
-        quantities: Quantities { dc, dm, dr },
+    Some(Input {
+        quantities,
         bounds,
         reported,
-    }
-}
-
-fn bit(b: bool) -> u64
-    ensures { result ≡ Output.bit b }
-{
-    if b { 1 } else { 0 }
+    })
 }
 
 // A line of the table, with its line feed.
@@ -218,8 +175,8 @@ fn put_row(line: &mut [u8], r: Row)
     columns::put_number(line, 29, 9, r.sched);
     columns::put_number(line, 38, 9, r.back);
     columns::put_number(line, 47, 9, r.left);
-    columns::put_number(line, 56, 2, bit(r.flag));
-    columns::put_number(line, 58, 2, bit(r.verdict));
+    columns::put_number(line, 56, 2, u64::from(r.flag));
+    columns::put_number(line, 58, 2, u64::from(r.verdict));
     line[60] = 10;
 }
 
@@ -228,12 +185,9 @@ fn put_rows(output: &mut [u8], rows: [Row; 8])
     requires { 488 ≤ length output.old }
     ensures { output.new ≡ Output.table rows ++ drop 488 output.old }
 {
-    let mut i: usize = 0;
-    while i < 8 {
+    for (i, r) in rows.iter().enumerate() {
         let at = 61 * i;
-        let r = rows[i];
-        put_row(&mut output[at..at + 61], r);
-        i += 1;
+        put_row(&mut output[at..at + 61], *r);
     }
 }
 
@@ -247,44 +201,15 @@ pub fn table_of(rows: [Row; 8]) -> [u8; 488]
 }
 
 // Reads the input, monitors it and writes the table at the start of the output: refusals 13, 1, 7, 11, 14.
-pub fn report(input: &[u8], output: &mut [u8]) -> ReportAnswer
-    ensures answer { Report.answer_with result output.new ≡ Report.reporting input.now output.old }
+pub fn report(input: &[u8], output: &mut [u8]) -> Result<(), ReportRefusal>
+    ensures answer { Report.answer_of result output.new ≡ Report.reporting input.now output.old }
     ensures output { output.new ≡ Report.output_after input.now output.old }
 {
-    let p = parse(input);
-    if !p.good {
-        return ReportAnswer::Malformed;
+    let p = parse(input).ok_or(ReportRefusal::Malformed)?;
+    let rows = monitor::monitor(p.quantities, p.bounds, p.reported)?;
+    if output.len() < 488 {
+        return Err(ReportRefusal::Short);
     }
-    let quantities = p.quantities;
-    let bounds = p.bounds;
-    let reported = p.reported;
-    let m = monitor::monitor(quantities, bounds, reported);
-    let a = m.answer;
-    match a {
-        monitor::MonitorAnswer::Quantity => return ReportAnswer::Quantity,
-        monitor::MonitorAnswer::Bound => return ReportAnswer::Bound,
-        monitor::MonitorAnswer::Reported => return ReportAnswer::Reported,
-        monitor::MonitorAnswer::Rows => {
-            if output.len() < 488 {
-                return ReportAnswer::Short;
-            }
-            let rows = m.rows;
-            put_rows(output, rows);
-            ReportAnswer::Written
-        }
-    }
-}
-
-// The number of an answer, 0 for the table.
-pub fn number(answer: ReportAnswer) -> u32
-    ensures { result ≡ number_of {A = Unit} (Report.answer_with answer tt) }
-{
-    match answer {
-        ReportAnswer::Written => 0,
-        ReportAnswer::Malformed => 13,
-        ReportAnswer::Quantity => 1,
-        ReportAnswer::Bound => 7,
-        ReportAnswer::Reported => 11,
-        ReportAnswer::Short => 14,
-    }
+    put_rows(output, rows);
+    Ok(())
 }

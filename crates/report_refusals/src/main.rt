@@ -4,9 +4,8 @@
 use std::io;
 
 fn show(rt: &impl Print, input: &[u8], output: &mut [u8]) -> io::Result<()> {
-    let number = report::number(report::report(input, output));
-    let line = columns::number_line(number as u64);
-    rt.write_all(&line)
+    let number = common::number(report::report(input, output));
+    println!(rt; "{number:>9}")
 }
 
 fn show_next(rt: &HostRuntime, room: usize) -> io::Result<()> {

@@ -1,4 +1,4 @@
--- The loop of `compare`: after i turns, whether the entries of the periods 1 to i are those of their bounds. Assumes nothing.
+-- The loop of `match_entries`: after i turns, whether the entries of the periods 1 to i are those of their bounds. Assumes nothing.
 use mathlib.Core.Path.{◌≡◌, refl}
 use mathlib.Core.Bool.{Bool, true, ◌&&◌}
 use mathlib.Core.List.{List}

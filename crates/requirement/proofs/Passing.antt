@@ -1,4 +1,4 @@
--- The periods passed one by one, by `fill` and by `compare`: after i turns, what is left and what is short at period i + 1, and in
+-- The periods passed one by one, by `fill` and by `match_entries`: after i turns, what is left and what is short at period i + 1, and in
 -- `backs` what comes back up to period i + 4. Assumes nothing.
 use mathlib.Core.Path.{◌≡◌, refl, sym, ap, ◌∙◌}
 use mathlib.Core.List.{List}
@@ -10,9 +10,9 @@ use lib.IntN.{pos, ◌-ℤ◌}
 use lib.ListN.{get_or, set, length, length-set, replicate, get_or-replicate}
 use lib.Seq.{get_or-set_same, get_or-set_other}
 use Rattle.common.specs.Periods.{of_period}
-use Rattle.requirement.specs.Requirement.{left, sched, back, end, row_from, row_of}
+use Rattle.requirement.specs.Requirement.{left, sched, back, end, row_from, row_of, RowFits}
 use Rattle.requirement.specs.declared.Row.{Row}
-use Rattle.requirement.proofs.Shortfall.{shortfall, left-next, back_none, back-later, back-le, sched-le, start_is}
+use Rattle.requirement.proofs.Shortfall.{shortfall, left-next, back_none, back-later, back-le, start_is}
 
 module _ (REV ER : ℕ) (bounds : List ℕ) where
   abbrev e : ℕ → ℕ
@@ -52,8 +52,15 @@ module _ (REV ER : ℕ) (bounds : List ℕ) where
     here : e (suc i) ≡ get_or bounds i 0
     here = ap (λ (n : ℕ). get_or bounds n 0) (omega arith)
 
-    pub back_fits : get_or backs i 0 ≤ s
-    back_fits = omega (arith, back_is, back-le ER e (suc i))
+    -- the next period's row fits
+    pub fits : RowFits i l (get_or backs i 0) s
+    fits =
+        record {
+          period_left = h;
+          left_most = omega (arith, w.left_le);
+          short_most = omega (arith, w.short-le);
+          back_most = omega (arith, back_is, back-le ER e (suc i));
+        }
 
     module _ (row : Row) (p : row ≡ row_from ER (get_or bounds i 0) l (get_or backs i 0) (pos REV -ℤ pos s)) where
       pub row_is : row ≡ row_of REV ER e (suc i)
@@ -62,9 +69,6 @@ module _ (REV ER : ℕ) (bounds : List ℕ) where
       sched-is : row.sched ≡ sched ER e (suc i)
       unfolding row_of
       sched-is = ap (λ (r : Row). r.sched) row_is
-
-      pub sched-fits : row.sched ≤ l + get_or bounds i 0
-      sched-fits = omega (arith, sched-is, sched-le ER e (suc i), here)
 
       pub one-passed : get_or bounds i 0 < 2 ^ 32 → Passed (set backs (i + 4) row.sched) (l + get_or bounds i 0 - row.sched) (s + get_or bounds i 0 - get_or backs i 0) (i + 1)
       unfolding shortfall

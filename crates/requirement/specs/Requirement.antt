@@ -1,6 +1,6 @@
 -- Paper 01, "Requirement, each direction alike": REV and ER are a direction's volumes, and e i is the bound of period i = 1, 2, ..
 -- There is no period 0: nothing reads what stands for it. Assumes nothing.
-use Rattle.std.specs.Prelude.{Bool, cond, ◌&&◌, ◌||◌, List, map, ℕ, zero, suc, ◌+◌, ◌-◌, ◌^◌, ◌≤◌, min, leb, eqb, ℤ, pos, ◌+ℤ◌, ◌-ℤ◌, get_or}
+use Rattle.std.specs.Prelude.{Bool, cond, ◌&&◌, ◌||◌, List, map, ℕ, zero, suc, ◌+◌, ◌-◌, ◌^◌, ◌≤◌, ◌<◌, min, leb, eqb, ℤ, pos, ◌+ℤ◌, ◌-ℤ◌, get_or}
 use Rattle.std.specs.Int.Signed.{le_z}
 use Rattle.common.specs.Lists.{every}
 use Rattle.common.specs.Periods.{periods_to, of_period}
@@ -95,7 +95,7 @@ matched_to REV ER bounds requirements schedules n =
       next = next_of REV ER e (suc n);
     }
 
--- ---- what the private function `row_of` makes and asks
+-- ---- what the private function `pass` makes and asks
 
 -- a period's row, from its bound, what is left and what comes back, and its start
 abbrev pub row_from : ℕ → ℕ → ℕ → ℕ → ℤ → Row
@@ -109,9 +109,9 @@ row_from ER e left back start =
       flag = flag_of start (end_of start back e);
     }
 
--- where start is REV less the shortfall: the sums fit, and no more comes back than is short
-pub record RowFits (REV left back shortfall : ℕ) : Type 0 where
-  pub rev_most : REV ≤ 2 ^ 44
+-- where start is REV less the shortfall: a period of the block is left, the sums fit, and no more comes back than is short
+pub record RowFits (passed left back shortfall : ℕ) : Type 0 where
+  pub period_left : passed < 8
   pub left_most : left ≤ 2 ^ 35
   pub short_most : shortfall ≤ 2 ^ 35
   pub back_most : back ≤ shortfall

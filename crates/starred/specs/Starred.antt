@@ -5,8 +5,7 @@ use Rattle.std.specs.Prelude.{◌≡◌, refl, Bool, cond, List, [], ◌∷◌, 
 use Rattle.common.specs.Answer.{number_of, or_blank}
 use Rattle.common.specs.Lists.{sum, every, some_entry, chain}
 use Rattle.common.specs.Periods.{periods_to}
-use Rattle.terms.specs.declared.Quantities.{Quantities}
-use Rattle.terms.specs.Terms.{REV, ER, limits_broken}
+use Rattle.terms.specs.Terms.{Quantities, REV, ER, limits_broken}
 use Rattle.requirement.specs.declared.Row.{Row as Requirement}
 use Rattle.requirement.specs.Requirement.{left, sched, back, start, end, row_of, table_of}
 use Rattle.monitor.specs.declared.Row.{Row}

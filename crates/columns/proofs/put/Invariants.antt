@@ -1,10 +1,7 @@
--- What the loops of `put` keep, and their measures. Assumes nothing.
+-- What the loop of `put` keeps. Assumes nothing.
 use lib.ListN.{length}
 use Rattle.columns.proofs.Columns.{Filled}
 use Rattle.columns.proofs.put.Given as goal
 
 abbrev pub invariant-loop-i : goal.invariant-loop-i
 invariant-loop-i l = Filled (length l.initial.cell) l.minus l.n l.cell l.i l.rest l.due
-
-abbrev pub decreases-loop-i : goal.decreases-loop-i
-decreases-loop-i l = l.i

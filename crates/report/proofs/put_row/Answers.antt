@@ -1,5 +1,7 @@
 -- `report::put_row` meets its contract: after each call the line begins with the texts so far. Assumes nothing.
-use mathlib.Core.Path.{ap}
+use mathlib.Core.Path.{◌≡◌, refl, ap, ◌∙◌}
+use mathlib.Core.Bool.{Bool, true, false}
+use Rattle.std.specs.Int.{from_bool}
 use borrow.Author.Rules.{rules}
 use lib.Dec.{lit≤}
 use lib.IntN.{pos}
@@ -7,8 +9,12 @@ use mir.Syntax.{w64}
 use mir.Facts.{to_z-of_z}
 use Rattle.common.proofs.Placing.{nothing, byte, whole}
 use Rattle.columns.proofs.Placing.{number, number_is}
-use Rattle.report.specs.Output.{line_of}
+use Rattle.report.specs.Output.{bit, line_of}
 use Rattle.report.proofs.put_row.Goals as goal
+
+bit-is : (b : Bool) → from_bool b ≡ bit b
+bit-is true = refl
+bit-is false = refl
 
 -- the whole line: the numbers in their columns, then the line feed
 pub returns : goal.returns
@@ -22,6 +28,6 @@ returns c =
     let p5 = number p4 9 (pos r.sched) (lit≤ tt) c.put_number-3.ensures in
     let p6 = number p5 9 (pos r.back) (lit≤ tt) c.put_number-4.ensures in
     let p7 = number p6 9 (pos r.left) (lit≤ tt) c.put_number-5.ensures in
-    let p8 = number_is p7 2 (lit≤ tt) c.put_number-6.ensures (ap pos c.bit.ensures) in
-    let p9 = number_is p8 2 (lit≤ tt) c.put_number-7.ensures (ap pos c.bit-2.ensures) in
+    let p8 = number_is p7 2 (lit≤ tt) c.put_number-6.ensures (ap pos (c.from.ensures ∙ bit-is r.flag)) in
+    let p9 = number_is p8 2 (lit≤ tt) c.put_number-7.ensures (ap pos (c.from-2.ensures ∙ bit-is r.verdict)) in
     whole (byte p9 10 (lit≤ tt)) (lit≤ tt)

@@ -1,10 +1,11 @@
--- What the loops of `fill` keep, and their measures. Assumes nothing.
-use Prim.Native.Nat.{◌-◌}
+-- What the loop of `fill` keeps. Assumes nothing.
+use mathlib.Core.Path.{◌≡◌}
 use Rattle.requirement.proofs.Filling.{Filled}
 use Rattle.requirement.proofs.fill.Given as goal
 
 abbrev pub invariant-loop-i : goal.invariant-loop-i
-invariant-loop-i l = Filled l.rev l.er l.bounds l.rows l.backs l.left l.shortfall l.i
-
-abbrev pub decreases-loop-i : goal.decreases-loop-i
-decreases-loop-i l = 8 - l.i
+invariant-loop-i l = record {
+  volumes_are : l.sums.volumes ≡ l.volumes;
+  passed_are : l.sums.passed ≡ l.i;
+  filled : Filled l.volumes.rev l.volumes.er l.bounds l.rows l.sums.backs l.sums.left l.sums.shortfall l.i;
+}

@@ -1,6 +1,5 @@
 -- `energy::containment::interpolated_table` meets its contract: what was added to a table of zeros keeps the rule. Assumes nothing.
 use native.Mathlib.Omega.{arith}
-use borrow.Author.Rules.{rules}
 use Rattle.energy.proofs.ByTable.{interpolated}
 use Rattle.energy.proofs.StockCurve.{rule}
 use Rattle.energy.proofs.Tables.{zeros-at}
@@ -11,7 +10,6 @@ fill_by_steps-requires c =
     record {
       factor_most = omega arith;
       rule = rw c.containment_curve.ensures rule;
-      there = search rules;
       room = λ d. omega (arith, zeros-at 501 d);
     }
 

@@ -2,5 +2,5 @@
 use Rattle.energy.proofs.Filling.{Filling}
 use Rattle.energy.proofs.table.fill.Given as goal
 
-abbrev pub invariant-loop-d : goal.invariant-loop-d
-invariant-loop-d l = Filling l.first l.step l.from l.end l.initial.table l.table l.parts l.d
+abbrev pub invariant-loop-entry : goal.invariant-loop-entry
+invariant-loop-entry l = Filling l.first l.step l.initial.entry-items l.entry-items l.parts l.entry-index

@@ -1,49 +1,68 @@
 -- `energy::table::fill_direction` meets its contract: each service adds its responses. Assumes nothing.
-use mathlib.Core.Path.{◌∙◌}
-use Prim.Native.Nat.{◌+◌, ◌*◌}
+use mathlib.Core.Path.{◌≡◌, subst, ◌∙◌}
+use mathlib.Core.List.{◌++◌}
+use Prim.Native.Nat.{ℕ, ◌+◌, ◌*◌}
 use native.Mathlib.Omega.{arith}
-use Rattle.energy.specs.Table.{Room}
+use lib.ListN.{length, take, drop, length-take}
+use Rattle.energy.specs.Period.{responses}
+use Rattle.energy.specs.Table.{Room, Added}
 use Rattle.energy.proofs.Responses.{rules}
 use Rattle.energy.proofs.Shares.{response-le}
-use Rattle.energy.proofs.Tables.{room-left}
+use Rattle.energy.proofs.Tables.{room-left, room-front, both-added, front-added}
+use Rattle.energy.proofs.table.fill_direction.Given.{Over}
 use Rattle.energy.proofs.table.fill_direction.Goals as goal
+use Rattle.energy.proofs.table.fill_direction.Goals.{After-from, After-fill_service, After-fill_service-2, After-fill_service-3}
+
+-- the room before each service adds
+
+room-for-three : (g : Over) (c : After-from g) → Room (1000000 * c.args.q.dc + (1000000 * c.args.q.dm + 1000000 * c.args.q.dr)) (take (c.from.result + 1) c.args.table.now)
+room-for-three g c = room-front (c.from.result + 1) _ c.args.table.now (λ d. omega (arith, c.requires.room d))
+
+room-for-two : (g : Over) (c : After-fill_service g) → Room (1000000 * c.args.q.dm + 1000000 * c.args.q.dr) c.fill_service.new.table
+room-for-two g c =
+    let q = c.args.q in
+    room-left c.fill_service.ensures (1000000 * q.dm + 1000000 * q.dr) (1000000 * q.dc) (response-le q.dc c.args.curves.dc (rules c.args.curves c.requires.rules).dc)
+    (room-front (c.from.result + 1) _ c.args.table.now (λ d. omega (arith, c.requires.room d)))
+
+room-for-one : (g : Over) (c : After-fill_service-2 g) → Room (1000000 * c.args.q.dm + 1000000 * c.args.q.dr) c.fill_service.new.table → Room (1000000 * c.args.q.dr) c.fill_service-2.new.table
+room-for-one g c room =
+    let q = c.args.q in
+    room-left c.fill_service-2.ensures (1000000 * q.dr) (1000000 * q.dm) (response-le q.dm c.args.curves.dm (rules c.args.curves c.requires.rules).dm) room
 
 pub fill_service-requires : goal.fill_service-requires
 fill_service-requires g c =
     record {
       factor_most = omega (arith, c.requires.quantity_most);
       rule = (rules c.args.curves c.requires.rules).dc;
-      there = omega (arith, c.requires.there);
-      room = λ d. omega (arith, c.requires.room d);
+      room = λ d. omega (arith, room-for-three g (goal.at.fill_service-requires g c).After-from d);
     }
 
 pub fill_service-requires-2 : goal.fill_service-requires-2
 fill_service-requires-2 g c =
-    let q = c.args.q in
-    let by = rules c.args.curves c.requires.rules in
-    let room : Room (1000000 * q.dm + 1000000 * q.dr) c.fill_service.new.table =
-    room-left c.fill_service.ensures (1000000 * q.dm + 1000000 * q.dr) (1000000 * q.dc) (response-le q.dc c.args.curves.dc by.dc)
-    (λ d. omega (arith, c.requires.room d)) in
     record {
       factor_most = omega (arith, c.requires.quantity_most);
-      rule = by.dm;
-      there = omega (arith, c.requires.there, c.fill_service.auto.table);
-      room = λ d. omega (arith, room d);
+      rule = (rules c.args.curves c.requires.rules).dm;
+      room = λ d. omega (arith, room-for-two g (goal.at.fill_service-requires-2 g c).After-fill_service d);
     }
 
 pub fill_service-requires-3 : goal.fill_service-requires-3
 fill_service-requires-3 g c =
-    let q = c.args.q in
-    let by = rules c.args.curves c.requires.rules in
-    let room : Room (1000000 * q.dm + 1000000 * q.dr) c.fill_service.new.table =
-    room-left c.fill_service.ensures (1000000 * q.dm + 1000000 * q.dr) (1000000 * q.dc) (response-le q.dc c.args.curves.dc by.dc)
-    (λ d. omega (arith, c.requires.room d)) in
-    let room2 : Room (1000000 * q.dr) c.fill_service-2.new.table =
-    room-left c.fill_service-2.ensures (1000000 * q.dr) (1000000 * q.dm) (response-le q.dm c.args.curves.dm by.dm)
-    (λ d. omega (arith, room d)) in
+    let at = goal.at.fill_service-requires-3 g c in
     record {
       factor_most = omega (arith, c.requires.quantity_most);
-      rule = by.dr;
-      there = omega (arith, c.requires.there, c.fill_service-2.auto.table ∙ c.fill_service.auto.table);
-      room = λ d. omega (arith, room2 d);
+      rule = (rules c.args.curves c.requires.rules).dr;
+      room = λ d. omega (arith, room-for-one g at.After-fill_service-2 (room-for-two g at.After-fill_service) d);
     }
+
+pub returns : goal.returns
+returns g c =
+    let n = c.from.result + 1 in
+    let long : length (take n c.args.table.now) ≡ n = simp length-take (omega (arith, c.from.ensures, c.requires.there)) in
+    let second : length c.fill_service.new.table ≡ n = c.fill_service.auto.table ∙ long in
+    let third : length c.fill_service-2.new.table ≡ n = c.fill_service-2.auto.table ∙ second in
+    let all : length c.fill_service-3.new.table ≡ n = c.fill_service-3.auto.table ∙ third in
+    let two = both-added (rw long at c.fill_service.ensures) (rw second at c.fill_service-2.ensures) in
+    let three = both-added two (rw third at c.fill_service-3.ensures) in
+    let last : n ≡ c.args.most + 1 = omega (arith, c.from.ensures) in
+    subst (λ (k : ℕ). Added 0 k (responses c.args.q c.args.curves) c.args.table.now (c.fill_service-3.new.table ++ drop n c.args.table.now)) last
+    (front-added n (omega (arith, c.from.ensures, c.requires.there)) all three)

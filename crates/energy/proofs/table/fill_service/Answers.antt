@@ -7,13 +7,12 @@ use Rattle.energy.proofs.Tables.{same-added}
 use Rattle.energy.proofs.table.fill_service.Goals as goal
 
 pub returns-then-mw-eq0 : goal.returns-then-mw-eq0
-returns-then-mw-eq0 g c = none c.args.curve c.args.end c.if-mw-eq0.true
+returns-then-mw-eq0 g c = none c.args.curve _ c.if-mw-eq0.true
 
 pub fill_by_table-requires : goal.fill_by_table-requires
 fill_by_table-requires g c =
     record {
       mw_most = omega (arith, c.requires.factor_most);
-      there = c.requires.there;
       room = λ d. omega (arith, c.in-Some.ensures c.args.mw d, response-le c.args.mw c.args.curve c.requires.rule d, c.requires.room d);
     }
 

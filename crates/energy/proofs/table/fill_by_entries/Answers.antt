@@ -1,1 +1,0 @@
--- `energy::table::fill_by_entries` meets its contract. The loop's invariant is `Adding`. Assumes nothing.
