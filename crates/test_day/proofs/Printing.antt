@@ -1,7 +1,7 @@
 -- Lines on a page, and what is printed by what the text says. Assumes nothing.
 use mathlib.Core.Path.{◌≡◌, refl, sym, ap, ◌∙◌}
 use mathlib.Core.Bool.{Bool, true, false, not, cond}
-use mathlib.Core.List.{List, [], ◌∷◌, ◌++◌, flat_map, append_assoc, append-nil}
+use mathlib.Core.List.{List, [], ◌∷◌, ◌++◌, append-nil}
 use Prim.Native.Nat.{ℕ, suc, ◌+◌, ◌*◌, ◌/◌, ◌≤◌, ◌<◌, min}
 use native.Mathlib.Nat.{zero-add}
 use native.Mathlib.Numerals.{add-one}
@@ -11,7 +11,9 @@ use borrow.Rule.Slice.PartMut.{put_mid}
 use lib.IntN.{pos}
 use lib.ListN.{length, get_or, take, replicate, length-append, length-take, length-replicate}
 use lib.Seq.{take_all, take-suc}
+use Rattle.std.specs.List.{flat_map}
 use Rattle.std.specs.Prelude.{Some, None}
+use Rattle.std.proofs.lemmas.Grind.{flat_map-append}
 use Rattle.std.proofs.lemmas.Slice.{put_mid-paste}
 use Rattle.common.specs.Answer.{Answer, refused, given, cause, checked}
 use Rattle.common.specs.Lists.{placed}
@@ -31,14 +33,11 @@ unfolding number_line
 line-length n = length-append (text 9 (pos n)) (10 ∷ []) ∙ rw (text-length 9 (pos n))
 
 pub lines-length : (rs : List ℕ) → length (flat_map number_line rs) ≡ 10 * length rs
-unfolding flat_map
 lines-length [] = refl
 lines-length (r ∷ rs) = length-append (number_line r) (flat_map number_line rs) ∙ omega (arith, line-length r, lines-length rs)
 
 lines_snoc : (rs : List ℕ) (r : ℕ) → flat_map number_line (rs ++ (r ∷ [])) ≡ flat_map number_line rs ++ number_line r
-unfolding flat_map
-lines_snoc [] r = append-nil (number_line r)
-lines_snoc (x ∷ rs) r = ap (λ (l : List ℕ). number_line x ++ l) (lines_snoc rs r) ∙ sym (append_assoc (number_line x) (flat_map number_line rs) (number_line r))
+lines_snoc rs r = flat_map-append number_line rs (r ∷ []) ∙ ap (λ (l : List ℕ). flat_map number_line rs ++ l) (append-nil (number_line r))
 
 -- the bytes of a part of the page replaced by a line
 pub line-placed : (at k n : ℕ) (page line : List ℕ) → at + 10 ≤ length page → k ≡ 10 → line ≡ number_line n → put_mid at k page line ≡ placed at (number_line n) page
@@ -62,7 +61,6 @@ module _ (rs page : List ℕ) where
     pub is : now ≡ placed 0 (flat_map number_line (take i rs)) page
 
   pub begin : length rs ≤ length page / 10 → Written page 0
-  unfolding flat_map
   begin h = record { room = h; within = omega arith; is = sym (placed-none 0 page) }
 
   module _ {now : List ℕ} {i : ℕ} (w : Written now i) where

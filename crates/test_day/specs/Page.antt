@@ -1,7 +1,7 @@
 -- Paper 02, No. 9: the line that a seed is read from, and what is printed for it. In ASCII 10 is a line feed and 48 the digit 0.
 -- Assumes nothing.
-use Rattle.std.specs.Prelude.{Bool, not, cond, ◌&&◌, ◌||◌, ℕ, ◌-◌, leb, eqb, length, take, get_or, Option, Some, None, Result}
-use mathlib.Core.List.{List, [], ◌∷◌, flat_map}
+use Rattle.std.specs.List.{flat_map}
+use Rattle.std.specs.Prelude.{Bool, not, cond, ◌&&◌, ◌||◌, List, [], ◌∷◌, ℕ, ◌-◌, leb, eqb, length, take, get_or, Option, Some, None, Result}
 use Rattle.common.specs.Answer.{Answer, refused, given, Cause, cause, checked, answered}
 use Rattle.common.specs.Lists.{every}
 use Rattle.columns.specs.Line.{number_line}

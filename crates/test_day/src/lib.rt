@@ -2,7 +2,7 @@
 #![tactic(auto)]
 
 ghost use Rattle.std.specs.Prelude.{◌≡◌, ◌+◌, ◌≤◌, length};
-ghost use mathlib.Core.List.{flat_map};
+ghost use Rattle.std.specs.List.{flat_map};
 ghost use Rattle.common.specs.Lists.{placed};
 ghost use Rattle.columns.specs.Line.{number_line};
 ghost use Rattle.test_day.specs.Day.{next_seed, reading, filling, filled, refusal_number, answer_of};
