@@ -40,7 +40,7 @@ pub struct Matched {
     pub next: Next,
 }
 
-// A direction's response energy volume REV and recovery volume ER, in kWh.
+// A direction's response energy volume REV and recovery volume ER, in kWh. REV less any shortfall of a block then fits an i64.
 #[derive(Clone, Copy)]
 struct Volumes {
     rev: u64,
@@ -49,7 +49,7 @@ struct Volumes {
 }
 
 impl Volumes {
-    // Those of a direction's quantities.
+    // The volumes of a direction's quantities.
     fn of(q: Quantities) -> Volumes
         ensures { (result.rev ≡ REV q) × (result.er ≡ ER q) }
     {
@@ -95,7 +95,7 @@ impl Sums {
         }
     }
 
-    // Passes a period: gives its row.
+    // Passes the next period, of this bound, and gives its row.
     fn pass(&mut self, bound: u32) -> Row
         requires { RowFits self.old.passed self.old.left (slice_index self.old.backs self.old.passed) self.old.shortfall }
         ensures row { result ≡ row_from self.old.volumes.er bound self.old.left (slice_index self.old.backs self.old.passed) (pos self.old.volumes.rev -ℤ pos self.old.shortfall) }
@@ -105,12 +105,15 @@ impl Sums {
         ensures shortfall { self.new.shortfall ≡ self.old.shortfall + bound - slice_index self.old.backs self.old.passed }
         ensures backs { self.new.backs ≡ slice_set self.old.backs (self.old.passed + 4) result.sched }
     {
-        let volumes = self.volumes;
+        let Sums {
+            volumes,
+            passed: i,
+            left,
+            shortfall,
+            ..
+        } = *self;
         let rev = volumes.rev;
-        let i = self.passed;
-        let left = self.left;
         let back = self.backs[i];
-        let shortfall = self.shortfall;
         let due = bound as u64 + left;
         let sched = due.min(volumes.er);
         let next = shortfall + bound as u64 - back;
@@ -141,6 +144,7 @@ impl Sums {
     }
 }
 
+// The rows of the eight periods, and the next start after them.
 fn fill(volumes: Volumes, bounds: [u32; 8]) -> Table
     ensures { result ≡ table_of volumes.rev volumes.er bounds }
 {
@@ -195,7 +199,7 @@ pub fn match_entries(
     let mut same = true;
     for i in 0..count {
         let made = sums.pass(bounds[i]);
-        same = same & is_noted(requirements[i], schedules[i], made.start, made.sched);
+        same &= is_noted(requirements[i], schedules[i], made.start, made.sched);
     }
     Matched {
         same,

@@ -1,5 +1,5 @@
 -- `columns::put` meets its contract. The loop's invariant is `Filled`: what is left to write, and what is written, make the text. Assumes nothing.
-use mathlib.Core.Path.{refl, ◌∙◌}
+use mathlib.Core.Path.{refl}
 use native.Mathlib.Omega.{arith}
 use lib.ListN.{length-set}
 use Rattle.columns.proofs.Columns.{no-columns, begin, step, done}
@@ -13,9 +13,6 @@ loop-i-init c = simp length-set (begin _ _ _ c.args.cell.now refl (omega arith))
 
 pub loop-i-preserved : goal.loop-i-preserved
 loop-i-preserved c = step _ _ _ c.loop-i.invariant c.loop-i-test.true _ c.next_column-c.ensures
-
-pub shape_of-cell : goal.shape_of-cell
-shape_of-cell c = c.loop-i.invariant.long ∙ simp length-set
 
 pub returns : goal.returns
 returns c = simp length-set at (done _ _ _ c.loop-i.invariant c.loop-i-test.false)

@@ -2,26 +2,16 @@
 use mathlib.Core.Path.{◌≡◌}
 use lib.ListN.{length}
 use borrow.Author.Rules.{rules}
-use Rattle.report.proofs.Table.{begin, long, cell-long, step, done}
+use Rattle.report.proofs.Table.{begin, step, done}
 use Rattle.report.proofs.put_rows.Goals as goal
 
 pub loop-i-init : goal.loop-i-init
 loop-i-init c = begin _ _
 
-pub put_row-requires : goal.put_row-requires
-put_row-requires c =
-    let eight : length c.args.rows ≡ 8 = search rules in
-    cell-long _ _ eight c.requires c.loop-i.invariant c.loop-i-test.true
-
 pub loop-i-preserved : goal.loop-i-preserved
 loop-i-preserved c =
     let eight : length c.args.rows ≡ 8 = search rules in
     step _ _ eight c.requires c.loop-i.invariant _ c.loop-i-test.true c.put_row.ensures
-
-pub shape_of-output : goal.shape_of-output
-shape_of-output c =
-    let eight : length c.args.rows ≡ 8 = search rules in
-    long _ _ eight c.requires c.loop-i.invariant
 
 pub returns : goal.returns
 returns c =
