@@ -23,14 +23,6 @@ module _ (first step : ℕ) (before : List ℕ) where
       }
 
   module _ {entries : List ℕ} {parts i : ℕ} (f : Filling entries parts i) (h : i < length before) where
-    pub next-parts-fit : first + step * length before < 2 ^ 64 → parts + step < 2 ^ 64
-    next-parts-fit fits =
-        let l : i + 1 ≤ length before = omega arith in
-        omega (arith, f.parts_are, mul-le-mul_left step l, fits)
-
-    pub sum_fits : get_or before i 0 + wholes first step i < 2 ^ 32 → get_or entries i 0 + parts / 2 ^ 32 < 2 ^ 32
-    sum_fits room = rw (f.parts_are, f.so_far.above i (omega arith)) room
-
     pub turn : Filling (set entries i (get_or entries i 0 + parts / 2 ^ 32)) (parts + step) (i + 1)
     turn =
         record {

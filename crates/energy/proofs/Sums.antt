@@ -60,14 +60,6 @@ module _ {most : Directions ℕ} {rs : List ℕ} (h : WithinRange most rs) where
   high_le = omega (arith, ap (λ (d : Directions ℕ). d.high) h.same)
 
   module _ (lows highs : List ℕ) where
-    pub covered : length lows ≡ 3001 → length highs ≡ 3001 → Covered lows highs rs
-    covered l m =
-        record {
-          low_there = omega (arith, low-le, h.low_most);
-          high_there = omega (arith, high_le, h.high_most);
-          count_most = h.count_most;
-        }
-
     pub same-sums : (n : ℕ) (low high : Quantities) (cs : Curves) →
         Added 0 (most.low + 1) (responses low cs) (replicate n 0) lows →
         Added 0 (most.high + 1) (responses high cs) (replicate n 0) highs →

@@ -19,8 +19,3 @@ overflow_add-result c = omega (arith, range c)
 
 pub nonzero_div-result : goal.nonzero_div-result
 nonzero_div-result c = omega (arith, range c)
-
-pub overflow_cast-result : goal.overflow_cast-result
-overflow_cast-result c =
-    let r = range c in
-    omega (arith, up_le c.args.sum (divisor c.args.count) 500000 (omega arith) (omega arith))
