@@ -15,7 +15,7 @@ use Rattle.common.specs.declared.Directions.{Directions}
 use Rattle.energy.specs.Curve.{curves_rule, Curves}
 use Rattle.energy.specs.Period.{good_readings, low_deviation, high_deviation, responses, response_sum, bounds_of, BeforeReadings, from_readings}
 use Rattle.energy.specs.Rate.{is_period_count}
-use Rattle.energy.specs.Table.{largest, largest_deviation, largest_deviations, Added, DirectionFits, table_sum, table_sums, Covered, response_sums, WithinRange, HasResponses, RunningSums}
+use Rattle.energy.specs.Table.{largest, largest_deviation, largest_deviations, Added, DirectionFits, table_sum, table_sums, response_sums, WithinRange, HasResponses, RunningSums}
 use Rattle.energy.proofs.Largest.{drop_le, every-within}
 use Rattle.energy.proofs.Responses.{response-sum-le}
 use Rattle.energy.proofs.Tables.{zeros-at}

@@ -1,8 +1,6 @@
 -- `energy::period::period_kwh` meets its contract: the energy is at most 500,000 kWh. Assumes nothing.
 use native.Mathlib.Omega.{arith}
-use Rattle.energy.specs.Rate.{divisor}
 use Rattle.energy.proofs.Rates.{PeriodRange, period-range}
-use Rattle.energy.proofs.Rounding.{up_le}
 use Rattle.energy.proofs.period.period_kwh.Goals as goal
 
 range : (c : goal.Start) → PeriodRange c.args.count
