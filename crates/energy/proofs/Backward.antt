@@ -5,10 +5,10 @@ use Prim.Native.Nat.{ℕ, ◌+◌, ◌-◌, ◌^◌, ◌≤◌, ◌<◌}
 use native.Mathlib.Omega.{arith}
 use lib.ListN.{length, drop, get_or, length-drop}
 use lib.Seq.{drop-length}
-use Rattle.std.proofs.lemmas.List.{get_or-reverse, length-reverse}
+use Rattle.std.proofs.lemmas.List.{get_or-reverse, length-reverse, drop_more}
 use Rattle.std.proofs.lemmas.Grind.{get_or_default_zero}
 use Rattle.common.specs.Lists.{sum}
-use Rattle.common.proofs.Lists.{drop-next, sum-le}
+use Rattle.common.proofs.Lists.{sum-le}
 use Rattle.common.specs.declared.Directions.{Directions}
 use Rattle.energy.specs.Period.{low_deviation, high_deviation}
 use Rattle.energy.specs.Table.{table_sum, table_sums, sums_from}
@@ -41,7 +41,7 @@ module _ (deviation : ℕ → ℕ) (table rs : List ℕ) where
     one_more =
         let place = length rs - k - 1 in
         let e : place + 1 ≡ length rs - k = omega (arith, t.left) in
-        let next = drop-next rs place 0 (omega (arith, t.left)) in
+        let next = drop_more rs place 0 (omega (arith, t.left)) in
         let here : get_or table d 0 ≡ get_or table (deviation (get_or rs place 0)) 0 = ap (λ (n : ℕ). get_or table n 0) (at ∙ ap deviation t.is) in
         rw t.next (omega (arith, same, here, ap (table_sum deviation table) next, ap (λ (n : ℕ). table_sum deviation table (drop n rs)) e))
 

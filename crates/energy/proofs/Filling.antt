@@ -1,8 +1,7 @@
 -- The loop of `fill`: below the entry i of the part that is filled, the whole ones of the parts were added. Assumes nothing.
 use mathlib.Core.Path.{◌≡◌, refl}
 use mathlib.Core.List.{List}
-use Prim.Native.Nat.{ℕ, ◌+◌, ◌*◌, ◌/◌, ◌^◌, ◌≤◌, ◌<◌}
-use native.Mathlib.Nat.{mul-le-mul_left}
+use Prim.Native.Nat.{ℕ, ◌+◌, ◌*◌, ◌/◌, ◌^◌, ◌<◌}
 use native.Mathlib.Omega.{arith}
 use lib.ListN.{length, get_or, set, length-set}
 use Rattle.energy.specs.Table.{Added, wholes}
@@ -23,14 +22,6 @@ module _ (first step : ℕ) (before : List ℕ) where
       }
 
   module _ {entries : List ℕ} {parts i : ℕ} (f : Filling entries parts i) (h : i < length before) where
-    pub next-parts-fit : first + step * length before < 2 ^ 64 → parts + step < 2 ^ 64
-    next-parts-fit fits =
-        let l : i + 1 ≤ length before = omega arith in
-        omega (arith, f.parts_are, mul-le-mul_left step l, fits)
-
-    pub sum_fits : get_or before i 0 + wholes first step i < 2 ^ 32 → get_or entries i 0 + parts / 2 ^ 32 < 2 ^ 32
-    sum_fits room = rw (f.parts_are, f.so_far.above i (omega arith)) room
-
     pub turn : Filling (set entries i (get_or entries i 0 + parts / 2 ^ 32)) (parts + step) (i + 1)
     turn =
         record {

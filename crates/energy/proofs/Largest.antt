@@ -7,8 +7,9 @@ use native.Mathlib.Omega.{arith}
 use borrow.Author.Tests.{le-leb}
 use lib.Dec.{leb}
 use lib.ListN.{length, drop, get_or, drop_of_length-le}
+use Rattle.std.proofs.lemmas.List.{drop_more}
 use Rattle.common.specs.Lists.{every}
-use Rattle.common.proofs.Lists.{drop-next, every-both}
+use Rattle.common.proofs.Lists.{every-both}
 use Rattle.common.proofs.Tests.{leb-same, leb-max}
 use Rattle.energy.specs.Period.{is_reading, low_deviation, high_deviation}
 use Rattle.energy.specs.Table.{largest, largest_deviation, largest_deviations}
@@ -30,7 +31,7 @@ module _ (f : ℕ → ℕ) where
   module _ (rs : List ℕ) (i most : ℕ) (so_far : largest (map f rs) ≡ max most (largest (map f (drop i rs)))) where
     one_more : i < length rs → largest (map f rs) ≡ max (max most (f (get_or rs i 0))) (largest (map f (drop (i + 1) rs)))
     unfolding largest
-    one_more h = omega (arith, ap (λ (ns : List ℕ). largest (map f ns)) (drop-next rs i 0 h))
+    one_more h = omega (arith, ap (λ (ns : List ℕ). largest (map f ns)) (drop_more rs i 0 h))
 
     all : length rs ≤ i → largest (map f rs) ≡ most
     unfolding largest

@@ -8,10 +8,10 @@ use borrow.Author.Tests.{le-leb, lt-leb, lt-ltb, le-ltb, leb-true, ltb-true}
 use lib.Dec.{leb, eqb}
 use lib.ListN.{length, drop, get_or, take, length-take, length-drop, drop_of_length-le}
 use lib.Seq.{take_all}
+use Rattle.std.proofs.lemmas.List.{drop_more}
 use Rattle.common.specs.Fraction.{whole}
 use Rattle.common.specs.Lists.{chain}
 use Rattle.common.proofs.Chains.{link, onward, first_holds}
-use Rattle.common.proofs.Lists.{drop-next}
 use Rattle.common.proofs.Tests.{both_true}
 use Rattle.energy.specs.Curve.{blank, points_of, in_range, rises, points_rule, curve_rule, between, share_from, share_at}
 use Rattle.energy.specs.declared.curve.Point.{Point}
@@ -80,7 +80,7 @@ module _ (c : Curve) where
       pub first_and_others : points_of c ≡ first-of ∷ others-of
       first_and_others =
           let e : length (drop 1 ps) ≤ length ps - 1 = omega (arith, length-drop 1 ps) in
-          rw (take_all (length ps - 1) (drop 1 ps) e) (sym are ∙ drop-next ps 0 blank some-point)
+          rw (take_all (length ps - 1) (drop 1 ps) e) (sym are ∙ drop_more ps 0 blank some-point)
 
       pub holds : c.count ≤ 5 → eqb first-of.share 0 && chain in_range rises first-of others-of ≡ curve_rule c
       unfolding curve_rule
@@ -119,7 +119,7 @@ module _ (first : Point) (others : List Point) where
       at = get_or others i blank
 
       following : drop i others ≡ at ∷ drop (i + 1) others
-      following = drop-next others i blank h
+      following = drop_more others i blank h
 
       rule-there : chain in_range rises last (at ∷ drop (i + 1) others) ≡ true
       rule-there = subst (λ (ps : List Point). chain in_range rises last ps ≡ true) following r.rule

@@ -15,7 +15,7 @@ use Rattle.common.specs.declared.Directions.{Directions}
 use Rattle.energy.specs.Curve.{curves_rule, Curves}
 use Rattle.energy.specs.Period.{good_readings, low_deviation, high_deviation, responses, response_sum, bounds_of, BeforeReadings, from_readings}
 use Rattle.energy.specs.Rate.{is_period_count}
-use Rattle.energy.specs.Table.{largest, largest_deviation, largest_deviations, Added, DirectionFits, table_sum, table_sums, Covered, response_sums, WithinRange, HasResponses, RunningSums}
+use Rattle.energy.specs.Table.{largest, largest_deviation, largest_deviations, Added, DirectionFits, table_sum, table_sums, response_sums, WithinRange, HasResponses, RunningSums}
 use Rattle.energy.proofs.Largest.{drop_le, every-within}
 use Rattle.energy.proofs.Responses.{response-sum-le}
 use Rattle.energy.proofs.Tables.{zeros-at}
@@ -60,14 +60,6 @@ module _ {most : Directions ℕ} {rs : List ℕ} (h : WithinRange most rs) where
   high_le = omega (arith, ap (λ (d : Directions ℕ). d.high) h.same)
 
   module _ (lows highs : List ℕ) where
-    pub covered : length lows ≡ 3001 → length highs ≡ 3001 → Covered lows highs rs
-    covered l m =
-        record {
-          low_there = omega (arith, low-le, h.low_most);
-          high_there = omega (arith, high_le, h.high_most);
-          count_most = h.count_most;
-        }
-
     pub same-sums : (n : ℕ) (low high : Quantities) (cs : Curves) →
         Added 0 (most.low + 1) (responses low cs) (replicate n 0) lows →
         Added 0 (most.high + 1) (responses high cs) (replicate n 0) highs →

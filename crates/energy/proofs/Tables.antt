@@ -1,22 +1,18 @@
 -- Tables: what was added to their entries. Assumes nothing.
 use mathlib.Core.Path.{◌≡◌, refl, sym, ap, ◌∙◌}
 use mathlib.Core.List.{List, ◌++◌}
-use mathlib.Core.Logic.{◌≢◌}
-use Prim.Native.Nat.{ℕ, zero, suc, ◌+◌, ◌-◌, ◌≤◌, ◌<◌, min, max}
+use mathlib.Core.Logic.{◌≢◌, ⊎_elim}
+use Prim.Native.Nat.{ℕ, zero, suc, ◌+◌, ◌-◌, ◌≤◌, ◌<◌, min}
 use native.Mathlib.Nat.{add-zero}
-use native.Mathlib.Decide.{dec_lt}
 use native.Mathlib.Omega.{arith}
 use lib.ListN.{length, get_or, set, replicate, take, drop, length-take, get_or-append}
 use lib.Seq.{get_or-set_same, get_or-set_other, get_or-take, get_or-drop}
+use Rattle.std.proofs.lemmas.Bool.{cases_lt}
 use Rattle.std.proofs.lemmas.List.{get_or-append_right, get_or_past}
 use Rattle.energy.specs.Table.{Added, Room}
 
 pub either : {P : Type 0} (a b : ℕ) → (a < b → P) → (b ≤ a → P) → P
-either {P} a b f g = by (dec_lt a b)
-  where
-    by : Dec (a < b) → P
-    by (yes h) = f h
-    by (no h) = g (omega arith)
+either a b f g = ⊎_elim f g (cases_lt a b)
 
 pub zeros-at : (n d : ℕ) → ◌≡◌ {A = ℕ} (get_or (replicate n 0) d 0) 0
 zeros-at zero d = refl
@@ -45,15 +41,6 @@ module _ {from : ℕ} {f : ℕ → ℕ} {before : List ℕ} where
               (λ ge. let p : d ≡ at = omega arith in rw (p, get_or-set_same after at sum 0 h, a.above at (omega arith)));
           below = λ d lt. other d (λ p. omega arith) ∙ a.below d lt;
           above = λ d ge. other d (λ p. omega arith) ∙ a.above d (omega arith);
-        }
-
-    -- its end
-    pub all-added : (end : ℕ) → end ≤ at → at ≤ max end from → Added from end f before after
-    all-added end e m =
-        record {
-          inside = λ d l h. a.inside d l (omega arith);
-          below = a.below;
-          above = λ d h. either d at (λ lt. a.below d (omega arith)) (λ ge. a.above d ge);
         }
 
     pub same-added : (g : ℕ → ℕ) → ((d : ℕ) → from ≤ d → d < at → f d ≡ g d) → Added from at g before after

@@ -44,6 +44,11 @@ impl Curve {
 // One curve for each service, for both directions.
 pub type Curves = Services<Curve>;
 
+const UNUSED: Point = Point {
+    deviation: 0,
+    share: 0,
+};
+
 // The stock curves; they are not official bounds.
 pub const REGULATION: Curve = Curve {
     count: 2,
@@ -56,18 +61,9 @@ pub const REGULATION: Curve = Curve {
             deviation: 200,
             share: 1000,
         },
-        Point {
-            deviation: 0,
-            share: 0,
-        },
-        Point {
-            deviation: 0,
-            share: 0,
-        },
-        Point {
-            deviation: 0,
-            share: 0,
-        },
+        UNUSED,
+        UNUSED,
+        UNUSED,
     ],
 };
 
@@ -86,14 +82,8 @@ pub const CONTAINMENT: Curve = Curve {
             deviation: 500,
             share: 1000,
         },
-        Point {
-            deviation: 0,
-            share: 0,
-        },
-        Point {
-            deviation: 0,
-            share: 0,
-        },
+        UNUSED,
+        UNUSED,
     ],
 };
 

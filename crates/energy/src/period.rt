@@ -37,7 +37,7 @@ impl Refusal for EnergyRefusal {
 
 // How responses are worked out. It decides how long they take, and nothing else.
 pub trait Way {
-    // The table that may serve a curve, by which the responses are those of the curve. Where there is none, steps from point to point serve.
+    // A table by which the responses are those of the curve. Where there is none, steps from point to point serve.
     fn table_for(curve: Curve) -> Option<[u32; 501]>
         ensures { Offered curve result };
 }

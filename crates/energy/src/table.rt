@@ -2,7 +2,7 @@
 ghost use Rattle.std.specs.Prelude.{◌≡◌, ℕ, ◌+◌, ◌-◌, ◌*◌, ◌^◌, min, length};
 ghost use Rattle.energy.specs.Curve.{points_of, between, share_at, response_to, response};
 ghost use Rattle.energy.specs.Containment.{response_by_table};
-ghost use Rattle.energy.specs.Period.{high_deviation, responses};
+ghost use Rattle.energy.specs.Period.{responses};
 ghost use Rattle.energy.specs.Table.{largest_deviations, Added, wholes, FillFits, SegmentFits, ServiceFits, TableFits, DirectionFits, table_sums, Covered, response_sums, WithinRange};
 
 use crate::containment::response_by_entry;
@@ -132,12 +132,6 @@ fn fill_direction<W: Way>(q: Quantities, curves: Curves, most: u16, table: &mut 
 
 // ---- the sums
 
-fn high_deviation(reading: u32) -> u32
-    ensures { result ≡ high_deviation reading }
-{
-    if 50000 < reading { reading - 50000 } else { 0 }
-}
-
 // What the tables have for the readings, from the last reading back (paper 02, No. 3). One deviation is tested for and the other is
 // what is left: two tests of a u16 become 16-bit code, which took three times as long.
 fn sum_table(lows: &[u32], highs: &[u32], readings: &[u16]) -> Directions<u64>
@@ -146,10 +140,11 @@ fn sum_table(lows: &[u32], highs: &[u32], readings: &[u16]) -> Directions<u64>
 {
     let mut low: u64 = 0;
     let mut high: u64 = 0;
-    // `low` and `high` are the sums from the present reading's place on, `sums_from` (specs/Table): the invariant `Running` (proofs/Backward)
+    // `low` and `high` are the sums from the present reading's place on, `sums_from` (specs/Table): the invariant `Running`
+    // (proofs/Backward)
     for reading in readings.iter().rev() {
         let reading = u32::from(*reading);
-        let above = high_deviation(reading);
+        let above = reading.saturating_sub(50000);
         let below = 50000 + above - reading;
         low += u64::from(lows[below as usize]);
         high += u64::from(highs[above as usize]);

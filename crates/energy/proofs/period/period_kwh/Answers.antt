@@ -1,8 +1,6 @@
 -- `energy::period::period_kwh` meets its contract: the energy is at most 500,000 kWh. Assumes nothing.
 use native.Mathlib.Omega.{arith}
-use Rattle.energy.specs.Rate.{divisor}
 use Rattle.energy.proofs.Rates.{PeriodRange, period-range}
-use Rattle.energy.proofs.Rounding.{up_le}
 use Rattle.energy.proofs.period.period_kwh.Goals as goal
 
 range : (c : goal.Start) → PeriodRange c.args.count
@@ -19,8 +17,3 @@ overflow_add-result c = omega (arith, range c)
 
 pub nonzero_div-result : goal.nonzero_div-result
 nonzero_div-result c = omega (arith, range c)
-
-pub overflow_cast-result : goal.overflow_cast-result
-overflow_cast-result c =
-    let r = range c in
-    omega (arith, up_le c.args.sum (divisor c.args.count) 500000 (omega arith) (omega arith))

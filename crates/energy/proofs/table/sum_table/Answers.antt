@@ -33,12 +33,12 @@ loop-reading-init c = begin _ _ _
 
 pub bounds-lows-below : goal.bounds-lows-below
 bounds-lows-below c =
-    rw (c.from-reading.ensures, below-is c.in-Some.reading.now _ (rw c.from-reading.ensures at c.high_deviation-above.ensures))
+    rw (c.from-reading.ensures, below-is c.in-Some.reading.now _ (rw c.from-reading.ensures at c.saturating_sub-above.ensures))
     (there low_deviation c.args.readings.now _ _ _ (this (goal.at.bounds-lows-below c).In-Some) c.requires.low_there)
 
 pub overflow_add-low : goal.overflow_add-low
 overflow_add-low c =
-    let a = rw c.from-reading.ensures at c.high_deviation-above.ensures in
+    let a = rw c.from-reading.ensures at c.saturating_sub-above.ensures in
     let below = below-is c.in-Some.reading.now _ a in
     rw (c.from-low.ensures, c.from-reading.ensures) record {
       fits = low_fits _ _ _ c.loop-reading.invariant (this (goal.at.overflow_add-low c).In-Some) below a (λ d. omega (arith, c.type_inv.lows d)) c.requires.count_most;
@@ -46,12 +46,12 @@ overflow_add-low c =
 
 pub bounds-highs-above : goal.bounds-highs-above
 bounds-highs-above c =
-    rw (c.high_deviation-above.ensures, c.from-reading.ensures)
+    rw (c.saturating_sub-above.ensures, c.from-reading.ensures)
     (there high_deviation c.args.readings.now _ _ _ (this (goal.at.bounds-highs-above c).In-Some) c.requires.high_there)
 
 pub overflow_add-high : goal.overflow_add-high
 overflow_add-high c =
-    let a = rw c.from-reading.ensures at c.high_deviation-above.ensures in
+    let a = rw c.from-reading.ensures at c.saturating_sub-above.ensures in
     let below = below-is c.in-Some.reading.now _ a in
     rw c.from-high.ensures record {
       fits = high_fits _ _ _ c.loop-reading.invariant (this (goal.at.overflow_add-high c).In-Some) below a (λ d. omega (arith, c.type_inv.highs d)) c.requires.count_most;
@@ -59,7 +59,7 @@ overflow_add-high c =
 
 pub loop-reading-preserved : goal.loop-reading-preserved
 loop-reading-preserved c =
-    let a = rw c.from-reading.ensures at c.high_deviation-above.ensures in
+    let a = rw c.from-reading.ensures at c.saturating_sub-above.ensures in
     let below = below-is c.in-Some.reading.now _ a in
     rw (length_push c.loop-reading.yielded c.in-Some.reading, c.from-low.ensures, c.from-high.ensures, c.from-reading.ensures)
     (step _ _ _ c.loop-reading.invariant (this (goal.at.loop-reading-preserved c).In-Some) below a)
