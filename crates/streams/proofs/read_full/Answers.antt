@@ -1,21 +1,18 @@
 -- `streams::read_full` meets its contract: what a turn reads comes behind what was there. Assumes nothing.
-use Rattle.std.proofs.Common.{◌≡◌, ℕ, ◌+◌, ◌-◌, ◌≤◌, List, ◌++◌, rules, length, take, drop, sym, ap, ◌∙◌, subst, le_refl, drop_at, length-take-le}
-use Rattle.std.proofs.lemmas.Slice.{take-put_mid_below}
+use Rattle.std.proofs.Common.{◌≡◌, ℕ, ◌+◌, ◌-◌, ◌≤◌, List, ◌++◌, rules, length, take, sym, ap, ◌∙◌, subst, length-take-le}
 use Rattle.std.specs.Io.KnownBytes.{Consumes}
 use Rattle.std.proofs.KnownBytes.{Consumes-trans}
 use borrow.Rule.Slice.PartMut.{put_mid, post_of}
-use lib.Seq.{take-add, take-append-le}
+use lib.Seq.{take-append-add, take-append-le}
 use Rattle.streams.proofs.read_full.Goals as goal
 
 -- the first bytes are those that were there and the first n of the part that was read into
 take-read : (at n : ℕ) (buffer part : List ℕ) → at ≤ length buffer → n ≤ length part
     → take (at + n) (put_mid at (length buffer - at) buffer part) ≡ take at buffer ++ take n part
 take-read at n buffer part within fits =
-    let new = put_mid at (length buffer - at) buffer part in
     let after = post_of at (length buffer - at) buffer in
-    take-add at n new
-    ∙ ap (λ l. l ++ take n (drop at new)) (take-put_mid_below _ _ _ _ _ (le_refl _) within)
-    ∙ ap (λ l. take at buffer ++ take n l) (drop_at (take at buffer) (part ++ after) at (length-take-le at buffer within))
+    ap (λ i. take (i + n) (take at buffer ++ (part ++ after))) (sym (length-take-le at buffer within))
+    ∙ take-append-add (take at buffer) (part ++ after) n
     ∙ ap (λ l. take at buffer ++ l) (take-append-le n part after fits)
 
 pub loop-count-preserved : goal.loop-count-preserved
