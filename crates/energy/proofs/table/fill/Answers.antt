@@ -11,12 +11,6 @@ use Rattle.energy.proofs.table.fill.Goals.{After-min-2}
 order : (c : After-min-2) → c.min.result ≤ c.min-2.result
 order c = omega (arith, c.min.ensures, c.min-2.ensures, c.requires.order)
 
-pub slice_bounds-entry-items-count : goal.slice_bounds-entry-items-count
-slice_bounds-entry-items-count c = order c
-
-pub slice_bounds-entry-items-start : goal.slice_bounds-entry-items-start
-slice_bounds-entry-items-start c = order c
-
 pub returns : goal.returns
 returns c =
     let from = c.min.result in

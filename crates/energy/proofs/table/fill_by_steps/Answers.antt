@@ -6,22 +6,21 @@ use lib.ListN.{length}
 use Rattle.energy.proofs.Points.{some-point, ruled-by, first_and_others, counted}
 use Rattle.energy.proofs.Services.{begin, segment-fits, turn, flat-le, fill-fits, done}
 use Rattle.energy.proofs.table.fill_by_steps.Goals as goal
+use Rattle.energy.proofs.table.fill_by_steps.Goals.{After-points-points}
 
-there : (c : goal.After-points-points) → 1 ≤ length c.points-points.result.now
+there : (c : After-points-points) → 1 ≤ length c.points-points.result.now
 there c =
     let long : length c.args.curve.points ≡ 5 = c.well_formed.1.0.1.1.1.0.1.0.1 in
     some-point c.args.curve c.points-points.ensures (counted c.args.curve c.requires.rule).0 long
 
 pub slice_bounds-others-count : goal.slice_bounds-others-count
-slice_bounds-others-count c = there c
+slice_bounds-others-count c = there (goal.at.slice_bounds-others-count c).After-points-points
 
 pub slice_bounds-others-start : goal.slice_bounds-others-start
-slice_bounds-others-start c = there c
+slice_bounds-others-start c = there (goal.at.slice_bounds-others-start c).After-points-points
 
 pub bounds-points-0 : goal.bounds-points-0
-bounds-points-0 c =
-    let long : length c.args.curve.points ≡ 5 = c.well_formed.1.0.1.1.1.0.1.0.1 in
-    some-point c.args.curve c.points-points.ensures (counted c.args.curve c.requires.rule).0 long
+bounds-points-0 c = there (goal.at.bounds-points-0 c).After-points-points
 
 pub loop-next-init : goal.loop-next-init
 loop-next-init c =

@@ -3,7 +3,6 @@ use native.Mathlib.Omega.{arith}
 use Rattle.energy.specs.Curve.{response}
 use Rattle.energy.proofs.Services.{none}
 use Rattle.energy.proofs.Shares.{response-le}
-use Rattle.energy.proofs.Tables.{same-added}
 use Rattle.energy.proofs.table.fill_service.Goals as goal
 
 pub returns-then-mw-eq0 : goal.returns-then-mw-eq0
@@ -15,9 +14,6 @@ fill_by_table-requires g c =
       mw_most = omega (arith, c.requires.factor_most);
       room = λ d. omega (arith, c.in-Some.ensures c.args.mw d, response-le c.args.mw c.args.curve c.requires.rule d, c.requires.room d);
     }
-
-pub returns-in-Some : goal.returns-in-Some
-returns-in-Some g c = same-added c.fill_by_table.ensures _ (λ d l h. c.in-Some.ensures c.args.mw d)
 
 pub returns-in-None : goal.returns-in-None
 unfolding response

@@ -1,9 +1,6 @@
 -- `energy::table::largest_deviations` meets its contract. The loop's invariant is `SoFar`. Assumes nothing.
-use Rattle.energy.proofs.Largest.{begin, step, done}
+use Rattle.energy.proofs.Largest.{step, done}
 use Rattle.energy.proofs.table.largest_deviations.Goals as goal
-
-pub loop-reading-init : goal.loop-reading-init
-loop-reading-init c = begin _
 
 pub loop-reading-preserved : goal.loop-reading-preserved
 loop-reading-preserved c =
