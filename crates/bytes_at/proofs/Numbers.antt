@@ -1,12 +1,14 @@
 -- The laws of numbers in bytes: reading what was written gives the number back, writing what was read the bytes. Assumes nothing.
 use mathlib.Core.Path.{◌≡◌, refl, ap, ◌∙◌}
-use mathlib.Core.List.{List, ◌∷◌, ◌++◌}
+use mathlib.Core.List.{List, [], ◌∷◌, ◌++◌}
 use Prim.Native.Nat.{ℕ, zero, suc, ◌+◌, ◌*◌, ◌/◌, ◌%◌, ◌^◌, ◌≤◌, ◌<◌}
-use native.Mathlib.Nat.{pow-suc}
+use native.Mathlib.Nat.{add-zero, pow-suc}
 use native.Mathlib.Decide.{dec_lt}
 use native.Mathlib.Omega.{arith}
-use lib.ListN.{length, get_or, take, drop, drop_of_length-le, get_or-eq_default}
-use lib.Seq.{take-nil, take_at, drop_at}
+use lib.ListN.{length, get_or, set, take, drop, drop_of_length-le, get_or-eq_default}
+use lib.Seq.{take_all, take-nil, take_at, drop_at}
+use Rattle.std.proofs.lemmas.List.{get_or-set_same, get_or-set_other}
+use Rattle.std.specs.Int.{w32, w64, from_le_bytes}
 use Rattle.common.proofs.Lists.{drop-next}
 use Rattle.bytes_at.specs.Numbers.{number, bytes_of, number_at}
 
@@ -28,39 +30,41 @@ pub past_end : (width at : ℕ) (bytes : List ℕ) → length bytes ≤ at → n
 unfolding number
 past_end width at bytes h = rw (drop_of_length-le bytes h, take-nil {A = ℕ} width)
 
+-- of as many bytes from `at` on, with 0 for those past the end
+pub same_number : (from : List ℕ) (at : ℕ) (bytes : List ℕ) → ((i : ℕ) → i < length from → get_or from i 0 ≡ get_or bytes (at + i) 0)
+    → number from ≡ number_at (length from) at bytes
+unfolding number
+same_number [] at bytes h = refl
+same_number (b ∷ from) at bytes h =
+    let first : b ≡ get_or bytes at 0 = h 0 (omega arith) ∙ ap (λ (k : ℕ). get_or bytes k 0) (add-zero at) in
+    let on : (i : ℕ) → i < length from → get_or from i 0 ≡ get_or bytes (at + 1 + i) 0 =
+    λ i l. let place : at + suc i ≡ at + 1 + i = omega arith in h (suc i) (omega arith) ∙ ap (λ (k : ℕ). get_or bytes k 0) place in
+    rw (first_byte (length from) at bytes, first, same_number from (at + 1) bytes on)
+
+-- one byte more
+pub one_more : (from : List ℕ) (at : ℕ) (bytes : List ℕ) (i b : ℕ) → i < length from → b ≡ get_or bytes (at + i) 0
+    → ((k : ℕ) → k < i → get_or from k 0 ≡ get_or bytes (at + k) 0) → (k : ℕ) → k < i + 1 → get_or (set from i b) k 0 ≡ get_or bytes (at + k) 0
+one_more from at bytes i b h is before k l = by (dec_lt k i)
+  where
+    by : Dec (k < i) → get_or (set from i b) k 0 ≡ get_or bytes (at + k) 0
+    by (yes m) = get_or-set_other from i k b 0 (λ e. omega arith) ∙ before k m
+    by (no m) = let here : k ≡ i = omega arith in rw here (get_or-set_same from i b 0 h ∙ is)
+
+-- ---- as std reads and writes them
+
 no_bytes : (at : ℕ) (bytes : List ℕ) → number_at 0 at bytes ≡ 0
 unfolding number
 no_bytes at bytes = refl
 
--- from the i-th after `at` on
-four-and : (width at i : ℕ) (bytes : List ℕ) → number_at (suc (suc (suc (suc width)))) (at + i) bytes
-    ≡ get_or bytes (at + i) 0 + 256 * get_or bytes (at + (i + 1)) 0 + 65536 * get_or bytes (at + (i + 2)) 0 + 16777216 * get_or bytes (at + (i + 3)) 0
-    + 4294967296 * number_at width (at + (i + 4)) bytes
-four-and width at i bytes =
-    let one : at + i + 1 ≡ at + (i + 1) = omega arith in
-    let two : at + (i + 1) + 1 ≡ at + (i + 2) = omega arith in
-    let three : at + (i + 2) + 1 ≡ at + (i + 3) = omega arith in
-    let four : at + (i + 3) + 1 ≡ at + (i + 4) = omega arith in
-    rw (
-      first_byte (suc (suc (suc width))) (at + i) bytes,
-      one,
-      first_byte (suc (suc width)) (at + (i + 1)) bytes,
-      two,
-      first_byte (suc width) (at + (i + 2)) bytes,
-      three,
-      first_byte width (at + (i + 3)) bytes,
-      four,
-    )
-    (omega arith)
+pub from_le_4 : (bytes : List ℕ) → length bytes ≡ 4 → from_le_bytes w32 bytes ≡ number bytes
+from_le_4 bytes l =
+    let all : number bytes ≡ number_at 4 0 bytes = rw (take_all 4 bytes (omega (arith, l))) in
+    omega (arith, all, no_bytes 4 bytes, first_byte 3 0 bytes, first_byte 2 1 bytes, first_byte 1 2 bytes, first_byte 0 3 bytes)
 
-pub four_is : (at i : ℕ) (bytes : List ℕ) → number_at 4 (at + i) bytes
-    ≡ get_or bytes (at + i) 0 + 256 * get_or bytes (at + (i + 1)) 0 + 65536 * get_or bytes (at + (i + 2)) 0 + 16777216 * get_or bytes (at + (i + 3)) 0
-four_is at i bytes = omega (arith, four-and 0 at i bytes, no_bytes (at + (i + 4)) bytes)
-
-pub eight_is : (at : ℕ) (bytes : List ℕ) → number_at 8 at bytes ≡ number_at 4 (at + 0) bytes + 4294967296 * number_at 4 (at + 4) bytes
-eight_is at bytes =
-    let here : at ≡ at + 0 = omega arith in
-    ap (λ (k : ℕ). number_at 8 k bytes) here ∙ omega (arith, four-and 4 at 0 bytes, four_is at 0 bytes)
+pub from_le_8 : (bytes : List ℕ) → length bytes ≡ 8 → from_le_bytes w64 bytes ≡ number bytes
+from_le_8 bytes l =
+    let all : number bytes ≡ number_at 8 0 bytes = rw (take_all 8 bytes (omega (arith, l))) in
+    omega (arith, all, no_bytes 8 bytes, first_byte 7 0 bytes, first_byte 6 1 bytes, first_byte 5 2 bytes, first_byte 4 3 bytes, first_byte 3 4 bytes, first_byte 2 5 bytes, first_byte 1 6 bytes, first_byte 0 7 bytes)
 
 -- ---- reading what was written
 

@@ -1,45 +1,40 @@
--- The bytes of a number written one after the other. Assumes nothing.
-use mathlib.Core.Path.{◌≡◌, refl, sym, ◌∙◌}
-use mathlib.Core.List.{List}
-use Prim.Native.Nat.{ℕ, suc, ◌+◌, ◌-◌, ◌/◌, ◌%◌, ◌≤◌, ◌<◌}
+-- The bytes of a number written at their place. Assumes nothing.
+use mathlib.Core.Path.{◌≡◌, refl, sym, ap, ◌∙◌}
+use mathlib.Core.List.{List, append_assoc}
+use Prim.Native.Nat.{ℕ, zero, suc, ◌+◌, ◌-◌, ◌/◌, ◌%◌, ◌^◌, ◌≤◌}
+use native.Mathlib.Nat.{pow-suc, div-div-eq-div-mul}
 use native.Mathlib.Omega.{arith}
-use lib.ListN.{length, set, length-set}
+use borrow.Author.Tests.{le-leb}
+use borrow.Rule.Slice.PartMut.{put_mid}
+use lib.ListN.{length, take, drop}
+use lib.Seq.{drop-drop, take-length}
+use Rattle.std.specs.Int.{byte_at, bytes_low_first}
 use Rattle.common.specs.Lists.{placed}
-use Rattle.common.proofs.Placing.{stays, placed-none, placed-next}
 use Rattle.bytes_at.specs.Numbers.{bytes_of}
-use Rattle.bytes_at.proofs.Numbers.{length-bytes}
 
-module _ (bytes₀ : List ℕ) (at width n : ℕ) where
-  -- the bytes end before them
-  pub short : length bytes₀ < at + width → bytes₀ ≡ placed at (bytes_of width n) bytes₀
-  short h = sym (stays at width (bytes_of width n) bytes₀ (length-bytes width n) h)
+-- the part that was written over is back in the whole
+pub put_back : (at : ℕ) (these bytes : List ℕ) → at + length these ≤ length bytes → put_mid at (at + length these - at) bytes these ≡ placed at these bytes
+unfolding placed
+put_back at these bytes h =
+    let wide : at + length these - at ≡ length these = omega arith in
+    rw (le-leb (at + length these) (length bytes) h, wide, drop-drop (length these) at bytes, take-length these)
+    (sym (append_assoc (take at bytes) these (drop (at + length these) bytes)))
 
-  -- those from the i-th on are still to be written, and make with it what all make
-  pub record Left (bytes : List ℕ) (i rest : ℕ) : Type 0 where
-    pub long : length bytes ≡ length bytes₀
-    pub same : placed (at + i) (bytes_of (width - i) rest) bytes ≡ placed at (bytes_of width n) bytes₀
+-- ---- the bytes as std makes them
 
-  pub begin : Left bytes₀ 0 n
-  begin =
-      let here : at + 0 ≡ at = omega arith in
-      let all : width - 0 ≡ width = omega arith in
-      record { long = refl; same = rw (here, all) }
+-- as many from the i-th on
+low_first : (width i n : ℕ) → bytes_low_first i width n ≡ bytes_of width (n / 256 ^ i)
+unfolding bytes_of
+low_first zero i n = refl
+low_first (suc width) i n =
+    let on : n / 256 ^ suc i ≡ n / 256 ^ i / 256 = rw (pow-suc 256 i) (sym (div-div-eq-div-mul n (256 ^ i) 256)) in
+    rw (low_first width (suc i) n, on, nth i n)
+  where
+    nth : (i n : ℕ) → byte_at i n ≡ n / 256 ^ i % 256
+    nth zero n = omega arith
+    nth (suc i) n = refl
 
-  module _ (bytes : List ℕ) (i rest : ℕ) (l : Left bytes i rest) where
-    pub step : i < width → at + width ≤ length bytes₀ → Left (set bytes (at + i) (rest % 256)) (i + 1) (rest / 256)
-    unfolding bytes_of
-    step h room =
-        let one : width - i ≡ suc (width - (i + 1)) = omega arith in
-        let on : at + (i + 1) ≡ at + i + 1 = omega arith in
-        let t = bytes_of (width - (i + 1)) (rest / 256) in
-        let fits : at + i + suc (length t) ≤ length bytes = omega (arith, length-bytes (width - (i + 1)) (rest / 256), l.long) in
-        record {
-          long = length-set bytes (at + i) (rest % 256) ∙ l.long;
-          same = rw (on, ← placed-next (at + i) (rest % 256) t bytes fits) (rw one at l.same);
-        }
-
-    pub done : width ≤ i → bytes ≡ placed at (bytes_of width n) bytes₀
-    unfolding bytes_of
-    done h =
-        let none : width - i ≡ 0 = omega arith in
-        sym (placed-none (at + i) bytes) ∙ (rw none at l.same)
+pub to_le_bytes_is : (width n : ℕ) → bytes_low_first 0 width n ≡ bytes_of width n
+to_le_bytes_is width n =
+    let all : n / 256 ^ 0 ≡ n = omega arith in
+    low_first width 0 n ∙ ap (bytes_of width) all

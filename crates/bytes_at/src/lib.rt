@@ -1,80 +1,74 @@
 // Numbers in a byte slice, read and written at an offset, the lowest byte first: what a C host keeps between calls.
 #![tactic(auto)]
 
-ghost use Rattle.std.specs.Prelude.{◌≡◌, ◌+◌, ◌<◌, ◌^◌, get_or};
+ghost use Rattle.std.specs.Prelude.{◌≡◌, ◌+◌, get_or};
 ghost use Rattle.common.specs.Lists.{placed};
-ghost use Rattle.bytes_at.specs.Numbers.{bytes_of, number_at};
+ghost use Rattle.bytes_at.specs.Numbers.{number, bytes_of, number_at};
 
 // ---- reading
 
-// The i-th byte after `at`, or 0 past the end.
-fn byte_at(bytes: &[u8], at: usize, i: usize) -> u64
-    ensures { (result ≡ get_or bytes.now (at + i) 0) × (result < 256) }
+// The i-th byte after `at`, or 0 past the end: so too where no usize is their sum.
+fn byte_at(bytes: &[u8], at: usize, i: usize) -> u8
+    ensures { result ≡ get_or bytes.now (at + i) 0 }
 {
-    if at < bytes.len() {
-        if i < bytes.len() - at {
-            return bytes[at + i] as u64;
-        }
+    match bytes.get(at.saturating_add(i)) {
+        Some(byte) => *byte,
+        None => 0,
     }
-    0
 }
 
-// The number in the four bytes from the i-th after `at` on.
-fn four_at(bytes: &[u8], at: usize, i: usize) -> u64
-    requires { i < 8 }
-    ensures { (result ≡ number_at 4 (at + i) bytes.now) × (result < 2 ^ 32) }
+// N bytes from `at` on, 0 past the end.
+fn bytes_from<const N: usize>(bytes: &[u8], at: usize) -> [u8; N]
+    ensures { number result ≡ number_at N at bytes.now }
 {
-    byte_at(bytes, at, i)
-        + 256 * byte_at(bytes, at, i + 1)
-        + 65536 * byte_at(bytes, at, i + 2)
-        + 16777216 * byte_at(bytes, at, i + 3)
+    let mut from = [0; N];
+    for i in 0..N {
+        from[i] = byte_at(bytes, at, i);
+    }
+    from
 }
 
 // The number in the four bytes from `at` on; of bytes that end before them, in those that are there.
 pub fn u32_at(bytes: &[u8], at: usize) -> u32
     ensures { result ≡ number_at 4 at bytes.now }
 {
-    four_at(bytes, at, 0) as u32
+    u32::from_le_bytes(bytes_from(bytes, at))
 }
 
 // The same of eight bytes.
 pub fn u64_at(bytes: &[u8], at: usize) -> u64
     ensures { result ≡ number_at 8 at bytes.now }
 {
-    four_at(bytes, at, 0) + 4294967296 * four_at(bytes, at, 4)
+    u64::from_le_bytes(bytes_from(bytes, at))
 }
 
 // ---- writing
 
-// Writes as many bytes of n from `at` on; bytes that end before them stay as they are.
-fn put_at(bytes: &mut [u8], at: usize, width: usize, n: u64)
-    ensures { bytes.new ≡ placed at (bytes_of width n) bytes.old }
+// Writes `these` from `at` on; bytes that end before them stay as they are.
+fn put(bytes: &mut [u8], at: usize, these: &[u8])
+    ensures { bytes.new ≡ placed at these.now bytes.old }
 {
-    if bytes.len() < width {
+    if bytes.len() < these.len() {
         return;
     }
-    if bytes.len() - width < at {
+    if bytes.len() - these.len() < at {
         return;
     }
-    let mut i: usize = 0;
-    let mut rest = n;
-    while i < width {
-        bytes[at + i] = (rest % 256) as u8;
-        i += 1;
-        rest = rest / 256;
-    }
+    bytes[at..at + these.len()].copy_from_slice(these);
 }
 
 // Writes n in the four bytes from `at` on; bytes that end before them stay as they are.
 pub fn put_u32(bytes: &mut [u8], at: usize, n: u32)
     ensures { bytes.new ≡ placed at (bytes_of 4 n) bytes.old }
 {
-    put_at(bytes, at, 4, n as u64);
+    let four = n.to_le_bytes();
+    put(bytes, at, &four);
 }
 
 // The same in eight bytes.
 pub fn put_u64(bytes: &mut [u8], at: usize, n: u64)
     ensures { bytes.new ≡ placed at (bytes_of 8 n) bytes.old }
 {
-    put_at(bytes, at, 8, n);
+    let eight = n.to_le_bytes();
+    put(bytes, at, &eight);
 }

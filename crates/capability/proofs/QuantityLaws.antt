@@ -10,11 +10,11 @@ use Rattle.common.specs.Answer.{given, Cause}
 use Rattle.common.proofs.Answers.{given-clear, given-value, clear_of}
 use Rattle.common.proofs.Tests.{both_true, by-test}
 use Rattle.capability.specs.declared.Limits.{Limits}
-use Rattle.capability.specs.declared.Points.{Points}
+use Rattle.capability.specs.declared.Point.{Point}
 use Rattle.capability.specs.declared.Energies.{Energies}
 use Rattle.capability.specs.Quantity.{capability_or_limit, data_rule, availability_rule, energies_rule, energy_of, no_quantity, quantity_of, quantity_causes, quantity_answer, quantity_by01, QuantityLaws}
 
-module _ (direction : ℕ) (l : Limits) (ps : Points) (limit : ℕ) where
+module _ (direction : ℕ) (l : Limits) (ps : List Point) (limit : ℕ) where
   abbrev most : ℕ
   most = capability_or_limit direction l ps limit
 
@@ -62,7 +62,7 @@ module _ (direction : ℕ) (l : Limits) (ps : Points) (limit : ℕ) where
   unfolding quantity_answer quantity_of
   own_energy available e f e-rule f-rule same = rw (e-rule, f-rule, same)
 
-pub quantity-laws : (direction : ℕ) (l : Limits) (ps : Points) (limit : ℕ) → QuantityLaws direction l ps limit
+pub quantity-laws : (direction : ℕ) (l : Limits) (ps : List Point) (limit : ℕ) → QuantityLaws direction l ps limit
 quantity-laws direction l ps limit =
     record {
       with_energy = with_energy direction l ps limit;

@@ -1,15 +1,15 @@
 -- Paper 01, "Capability": rooms and points, in kW. Assumes nothing.
-use Rattle.std.specs.Prelude.{Bool, false, not, cond, ◌&&◌, ◌||◌, List, [], ◌∷◌, ℕ, ◌≤◌, ◌<◌, leb, ltb, eqb, ℤ, pos, neg_ℤ, ◌-ℤ◌, take}
+use Rattle.std.specs.Prelude.{Bool, false, not, cond, ◌&&◌, ◌||◌, List, [], ◌∷◌, length, Result, ℕ, ◌≤◌, ◌<◌, leb, ltb, eqb, ℤ, pos, neg_ℤ, ◌-ℤ◌}
 use Rattle.std.specs.Int.Signed.{le_z}
-use Rattle.common.specs.Answer.{Answer, refused, given, cause, checked}
+use Rattle.common.specs.Answer.{Answer, cause, checked, answered}
 use Rattle.common.specs.Fraction.{Fraction, whole, on_line, rounded_down}
 use Rattle.common.specs.Lists.{every, chain}
 use Rattle.signed.specs.Sign.{above, eq_z, within}
 use Rattle.capability.specs.declared.Limits.{Limits}
 use Rattle.capability.specs.declared.Point.{Point}
-use Rattle.capability.specs.declared.Points.{Points}
-use Rattle.capability.specs.declared.CapabilityAnswer.{CapabilityAnswer}
-use Rattle.capability.specs.declared.CapabilityAnswer.TheVariants.{Power, Data}
+use Rattle.capability.specs.declared.Direction.{Direction}
+use Rattle.capability.specs.declared.Direction.TheVariants.{Low, High}
+use Rattle.capability.specs.declared.DataRefusal.{DataRefusal}
 
 -- ---- headroom and footroom
 
@@ -46,15 +46,16 @@ footroom l =
 abbrev pub direction_rule : ℕ → Bool
 direction_rule direction = eqb direction 1 || eqb direction 2
 
+-- the number of each of the code's directions
+abbrev pub direction_number : Direction → ℕ
+direction_number Low = 1
+direction_number High = 2
+
 -- a room is never below 0 where the limits keep their rule
 unfoldable pub room_of : ℕ → Limits → ℕ
 room_of direction l = above (cond (eqb direction 1) (headroom l) (footroom l))
 
 -- ---- capability
-
--- points past the count are ignored
-abbrev pub points_of : Points → List Point
-points_of ps = take ps.count ps.points
 
 -- 0 to 4,000,000
 abbrev pub point_in_range : Point → Bool
@@ -70,8 +71,8 @@ list_rule [] = false
 list_rule (p ∷ ps) = eqb p.room 0 && chain point_in_range rises p ps
 
 -- there are 2 to 5 points
-unfoldable pub points_rule : Points → Bool
-points_rule ps = leb 2 ps.count && leb ps.count 5 && list_rule (points_of ps)
+unfoldable pub points_rule : List Point → Bool
+points_rule ps = leb 2 (length ps) && leb (length ps) 5 && list_rule ps
 
 abbrev pub line : Point → Point → ℕ → Fraction
 line p q room = on_line p.room p.capability q.room q.capability room
@@ -88,8 +89,8 @@ capability_at (p ∷ []) room = whole 0
 capability_at (p ∷ q ∷ ps) room = capability_from p q ps room
 
 -- rounded down
-unfoldable pub capability_of : Points → ℕ → ℕ
-capability_of ps room = rounded_down (capability_at (points_of ps) room)
+unfoldable pub capability_of : List Point → ℕ → ℕ
+capability_of ps room = rounded_down (capability_at ps room)
 
 -- ---- the answers: 12 where data break their rule
 
@@ -98,14 +99,17 @@ room_answer direction l =
     checked (cause 12 (not (direction_rule direction && limits_rule l)) ∷ []) (room_of direction l)
 
 -- a room is 0 to 4,000,000
-unfoldable pub capability_answer : Points → ℕ → Answer ℕ
+unfoldable pub capability_answer : List Point → ℕ → Answer ℕ
 capability_answer ps room =
     checked (cause 12 (not (points_rule ps && leb room 4000000)) ∷ []) (capability_of ps room)
 
--- the number, or the power in kW, of each case of the code's answer
-abbrev pub answer_of : CapabilityAnswer → Answer ℕ
-answer_of (Power kw) = given kw
-answer_of Data = refused 12
+-- the number of the code's refusal
+abbrev pub data_number : DataRefusal → ℕ
+data_number refusal = 12
+
+-- a room or a capability in kW, or the refusal's number
+abbrev pub answer_of : Result ℕ DataRefusal → Answer ℕ
+answer_of = answered data_number
 
 -- ---- what the private function `on_line` asks
 

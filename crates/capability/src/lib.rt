@@ -1,15 +1,19 @@
 // Headroom and footroom, response capability and contracted quantity of a unit, in kW.
 #![tactic(auto)]
 
-ghost use Rattle.std.specs.Prelude.{◌≡◌, true, [], ◌∷◌, ◌+◌, ◌/◌, ◌^◌, ◌≤◌, ◌<◌, ◌-ℤ◌};
+ghost use Rattle.std.specs.Prelude.{◌≡◌, true, false, [], ◌∷◌, ◌+◌, ◌^◌, ◌≤◌, ◌<◌, ◌-ℤ◌, MatchResult};
 ghost use Rattle.std.specs.Int.Signed.{le_z};
 ghost use Rattle.common.specs.Fraction.{rounded_down};
 ghost use Rattle.common.specs.Lists.{every};
 ghost use Rattle.signed.specs.Sign.{above};
-ghost use Rattle.capability.specs.Capability.{in_range, limits_rule, whole_range, headroom, footroom, direction_rule, room_of};
+ghost use Rattle.capability.specs.Capability.{in_range, limits_rule, whole_range, headroom, footroom, direction_number, direction_rule, room_of};
 ghost use Rattle.capability.specs.Capability.{point_in_range, rises, points_rule, Segment, line, capability_of};
-ghost use Rattle.capability.specs.Capability.{answer_of, room_answer, capability_answer};
-ghost use Rattle.capability.specs.Quantity.{capability_or_limit, data_rule, availability_rule, energies_rule, energy_of, no_quantity, quantity_answer, answer_of_quantity};
+ghost use Rattle.capability.specs.Capability.{data_number, answer_of, room_answer, capability_answer};
+ghost use Rattle.capability.specs.Quantity.{capability_or_limit, availability_number, availability_rule, energies_rule, energy_of, no_quantity};
+ghost use Rattle.capability.specs.Quantity.{quantity_number, answer_of_quantity, quantity_answer};
+ghost use Rattle.capability.specs.declared.QuantityRefusal.TheVariants.{Data};
+
+use common::{LinePoint, Refusal};
 
 // Maximum and stable import limits, stable and maximum export limits, operating level.
 #[derive(Clone, Copy)]
@@ -27,21 +31,6 @@ pub struct Point {
     pub capability: u32,
 }
 
-// Points past the count are ignored.
-#[derive(Clone, Copy)]
-pub struct Points {
-    pub count: u32,
-    pub points: [Point; 5],
-}
-
-#[derive(Clone, Copy)]
-pub enum CapabilityAnswer {
-    // A room or a capability.
-    Power(u64),
-    // Refusal 12: data break their rule.
-    Data,
-}
-
 // A unit's remaining deliverable energy for offers and for bids, in kWh.
 #[derive(Clone, Copy)]
 pub struct Energies {
@@ -49,15 +38,90 @@ pub struct Energies {
     pub bid: u32,
 }
 
-#[derive(Clone, Copy)]
-pub enum QuantityAnswer {
-    // The contracted quantity.
-    Quantity(u64),
-    // Refusal 12: another direction or availability, or data that break their rule.
+// ---- refusals
+
+// Refusal 12: another direction or availability, or data that break their rule.
+#[derive(Clone, Copy, Debug, PartialEq, Eq)]
+pub struct DataRefusal;
+
+#[derive(Clone, Copy, Debug, PartialEq, Eq)]
+pub enum QuantityRefusal {
+    // Another direction or availability, or data that break their rule.
     Data,
-    // Refusal 18: an energy above its limit.
+    // An energy above its limit.
     Energy,
 }
+
+impl Refusal for DataRefusal {
+    ghost refusal = { data_number };
+
+    fn number(self) -> u32 {
+        12
+    }
+}
+
+impl Refusal for QuantityRefusal {
+    ghost refusal = { quantity_number };
+
+    fn number(self) -> u32 {
+        match self {
+            QuantityRefusal::Data => 12,
+            QuantityRefusal::Energy => 18,
+        }
+    }
+}
+
+impl From<DataRefusal> for QuantityRefusal {
+    ghost from_gives = { λ _ refusal. refusal ≡ Data };
+
+    fn from(_refusal: DataRefusal) -> QuantityRefusal {
+        Self::Data
+    }
+}
+
+// ---- the numbers for a direction and for whether a unit is available
+
+#[derive(Clone, Copy)]
+enum Direction {
+    Low,
+    High,
+}
+
+impl TryFrom<u32> for Direction {
+    type Error = DataRefusal;
+
+    ghost try_from_gives = { λ n answer. MatchResult answer (λ direction. direction_number direction ≡ n) (λ _. direction_rule n ≡ false) };
+
+    fn try_from(n: u32) -> Result<Direction, DataRefusal> {
+        match n {
+            1 => Ok(Direction::Low),
+            2 => Ok(Direction::High),
+            _ => Err(DataRefusal),
+        }
+    }
+}
+
+#[derive(Clone, Copy, PartialEq, Eq)]
+enum Availability {
+    Unavailable,
+    Available,
+}
+
+impl TryFrom<u32> for Availability {
+    type Error = DataRefusal;
+
+    ghost try_from_gives = { λ n answer. MatchResult answer (λ available. availability_number available ≡ n) (λ _. availability_rule n ≡ false) };
+
+    fn try_from(n: u32) -> Result<Availability, DataRefusal> {
+        match n {
+            0 => Ok(Availability::Unavailable),
+            1 => Ok(Availability::Available),
+            _ => Err(DataRefusal),
+        }
+    }
+}
+
+// ---- rooms
 
 fn in_range(z: i64) -> bool
     ensures { result ≡ in_range z }
@@ -65,134 +129,120 @@ fn in_range(z: i64) -> bool
     (-2_000_000 <= z) & (z <= 2_000_000)
 }
 
-fn each_in_range(l: Limits) -> bool
-    ensures { result ≡ every in_range (l.mil ∷ l.sil ∷ l.sel ∷ l.mel ∷ l.ol ∷ []) }
-{
-    in_range(l.mil) & (in_range(l.sil) & (in_range(l.sel) & (in_range(l.mel) & in_range(l.ol))))
-}
-
-fn limits_hold(l: Limits) -> bool
-    ensures { result ≡ limits_rule l }
-{
-    each_in_range(l)
-        & (l.mil <= l.sil)
-        & (l.sil <= 0)
-        & (0 <= l.sel)
-        & (l.sel <= l.mel)
-        & ((l.mil <= l.ol) & (l.ol <= l.mel))
-}
-
-// SEL = SIL = 0
-fn whole_range(l: Limits) -> bool
-    ensures { result ≡ whole_range l }
-{
-    (l.sel == 0) & (l.sil == 0)
-}
-
-// OL ≥ SEL
-fn at_or_above_sel(l: Limits) -> bool
-    ensures { result ≡ le_z l.sel l.ol }
-{
-    l.sel <= l.ol
-}
-
-// OL ≤ SIL
-fn at_or_below_sil(l: Limits) -> bool
-    ensures { result ≡ le_z l.ol l.sil }
-{
-    l.ol <= l.sil
-}
-
-// By how much a is above b; 0 if it is not. With the parts below 0 added to both, no sign is left.
+// By how much a is above b; 0 if it is not.
 fn excess(a: i64, b: i64) -> u64
     ensures { result ≡ above (a -ℤ b) }
 {
-    let from = signed::above_zero(b) + signed::below_zero(a);
-    let to = signed::above_zero(a) + signed::below_zero(b);
-    to - common::smaller(from, to)
+    if a < b {
+        return 0;
+    }
+    a.abs_diff(b)
 }
 
-fn headroom(l: Limits) -> u64
-    ensures { result ≡ above (headroom l) }
-{
-    if whole_range(l) | at_or_above_sel(l) {
-        return excess(l.mel, l.ol);
+impl Limits {
+    fn each_in_range(self) -> bool
+        ensures { result ≡ every in_range (self.mil ∷ self.sil ∷ self.sel ∷ self.mel ∷ self.ol ∷ []) }
+    {
+        in_range(self.mil)
+            & (in_range(self.sil) & (in_range(self.sel) & (in_range(self.mel) & in_range(self.ol))))
     }
-    if at_or_below_sil(l) {
-        return excess(l.sil, l.ol);
-    }
-    0
-}
 
-fn footroom(l: Limits) -> u64
-    ensures { result ≡ above (footroom l) }
-{
-    if whole_range(l) | at_or_below_sil(l) {
-        return excess(l.ol, l.mil);
+    #[tactic(auto, unfolding(crate::specs::Capability::limits_rule))]
+    fn hold(self) -> bool
+        ensures { result ≡ limits_rule self }
+    {
+        self.each_in_range()
+            & (self.mil <= self.sil)
+            & (self.sil <= 0)
+            & (0 <= self.sel)
+            & (self.sel <= self.mel)
+            & ((self.mil <= self.ol) & (self.ol <= self.mel))
     }
-    if at_or_above_sel(l) {
-        return excess(l.ol, l.sel);
+
+    // SEL = SIL = 0
+    fn whole_range(self) -> bool
+        ensures { result ≡ whole_range self }
+    {
+        (self.sel == 0) & (self.sil == 0)
     }
-    0
-}
 
-fn direction_holds(direction: u32) -> bool
-    ensures { result ≡ direction_rule direction }
-{
-    (direction == 1) | (direction == 2)
-}
-
-// Headroom in direction 1, footroom in direction 2.
-fn room_of(direction: u32, l: Limits) -> u64
-    ensures { result ≡ room_of direction l }
-{
-    if direction == 1 {
-        return headroom(l);
+    // OL ≥ SEL
+    fn at_or_above_sel(self) -> bool
+        ensures { result ≡ le_z self.sel self.ol }
+    {
+        self.sel <= self.ol
     }
-    footroom(l)
-}
 
-fn point_in_range(p: Point) -> bool
-    ensures { result ≡ point_in_range p }
-{
-    (p.room <= 4_000_000) & (p.capability <= 4_000_000)
-}
-
-fn rises(p: Point, q: Point) -> bool
-    ensures { result ≡ rises p q }
-{
-    (p.room < q.room) & (p.capability <= q.capability)
-}
-
-fn points_hold(ps: Points) -> bool
-    ensures { result ≡ points_rule ps }
-{
-    let count = ps.count as usize;
-    if !((2 <= count) & (count <= 5)) {
-        return false;
+    // OL ≤ SIL
+    fn at_or_below_sil(self) -> bool
+        ensures { result ≡ le_z self.ol self.sil }
+    {
+        self.ol <= self.sil
     }
-    let points = ps.points;
-    let mut last = points[0];
-    if last.room != 0 {
-        return false;
-    }
-    let mut i: usize = 1;
-    while i < count {
-        let next = points[i];
-        if !(point_in_range(last) & rises(last, next)) {
-            return false;
+
+    #[tactic(auto, unfolding(crate::specs::Capability::headroom))]
+    fn headroom(self) -> u64
+        ensures { result ≡ above (headroom self) }
+    {
+        if self.whole_range() | self.at_or_above_sel() {
+            return excess(self.mel, self.ol);
         }
-        last = next;
-        i += 1;
+        if self.at_or_below_sil() {
+            return excess(self.sil, self.ol);
+        }
+        0
     }
-    point_in_range(last)
+
+    // Headroom's mirror image, and yet not the headroom of the limits with their signs changed: the least i64 has no opposite.
+    #[tactic(auto, unfolding(crate::specs::Capability::footroom))]
+    fn footroom(self) -> u64
+        ensures { result ≡ above (footroom self) }
+    {
+        if self.whole_range() | self.at_or_below_sil() {
+            return excess(self.ol, self.mil);
+        }
+        if self.at_or_above_sel() {
+            return excess(self.ol, self.sel);
+        }
+        0
+    }
+
+    #[tactic(auto, unfolding(crate::specs::Capability::room_of))]
+    fn room(self, direction: Direction) -> u64
+        ensures { result ≡ room_of (direction_number direction) self }
+    {
+        match direction {
+            Direction::Low => self.headroom(),
+            Direction::High => self.footroom(),
+        }
+    }
 }
 
-fn rounded_down(numerator: u64, denominator: u64) -> u64
-    requires { (0 < denominator) × (numerator + denominator < 2 ^ 64) }
-    ensures { result ≡ numerator / denominator }
+// ---- capability
+
+impl LinePoint for Point {
+    ghost in_range = { point_in_range };
+
+    ghost rises = { rises };
+
+    fn is_in_range(self) -> bool {
+        (self.room <= 4_000_000) & (self.capability <= 4_000_000)
+    }
+
+    fn rises_to(self, next: Point) -> bool {
+        (self.room < next.room) & (self.capability <= next.capability)
+    }
+}
+
+#[tactic(auto, unfolding(crate::specs::Capability::points_rule))]
+// Two to five points on a line, the first at room 0.
+fn points_hold(points: &[Point]) -> bool
+    ensures { result ≡ points_rule points.now }
 {
-    numerator / denominator
+    if !((2 <= points.len()) & (points.len() <= 5)) {
+        return false;
+    }
+    (points[0].room == 0) & common::is_line(points[0], &points[1..])
 }
 
 // The line through two points, rounded down.
@@ -203,122 +253,110 @@ fn on_line(p: Point, q: Point, room: u32) -> u64
     let width = (q.room - p.room) as u64;
     let rise = (q.capability - p.capability) as u64;
     let past = (room - p.room) as u64;
-    rounded_down(p.capability as u64 * width + rise * past, width)
+    (p.capability as u64 * width + rise * past) / width
 }
 
 // The line of the first segment that ends at the room or past it, else of the last two points.
-fn capability_of(ps: Points, room: u32) -> u64
-    requires { points_rule ps ≡ true }
-    ensures { result ≡ capability_of ps room }
+fn capability_of(points: &[Point], room: u32) -> u64
+    requires { points_rule points.now ≡ true }
+    ensures { result ≡ capability_of points.now room }
 {
-    let count = ps.count as usize;
-    let points = ps.points;
     let mut p = points[0];
     let mut q = points[1];
-    let mut i: usize = 2;
-    while i < count {
-        let next = points[i];
+    let others = &points[2..];
+    for next in others {
         if room <= q.room {
             return on_line(p, q, room);
         }
         p = q;
-        q = next;
-        i += 1;
+        q = *next;
     }
     on_line(p, q, room)
 }
 
 // The room of a direction: 1 low, headroom; 2 high, footroom.
-pub fn room(direction: u32, limits: Limits) -> CapabilityAnswer
+#[tactic(auto, unfolding(crate::specs::Capability::room_answer))]
+pub fn room(direction: u32, limits: Limits) -> Result<u64, DataRefusal>
     ensures { answer_of result ≡ room_answer direction limits }
 {
-    let good = direction_holds(direction) & limits_hold(limits);
-    if !good {
-        return CapabilityAnswer::Data;
+    let direction = Direction::try_from(direction)?;
+    if !limits.hold() {
+        return Err(DataRefusal);
     }
-    CapabilityAnswer::Power(room_of(direction, limits))
+    Ok(limits.room(direction))
 }
 
 // The response capability at a room of 0 to 4,000,000.
 #[tactic(auto, unfolding(crate::specs::Capability::capability_answer))]
-pub fn capability(points: Points, room: u32) -> CapabilityAnswer
-    ensures { answer_of result ≡ capability_answer points room }
+pub fn capability(points: &[Point], room: u32) -> Result<u64, DataRefusal>
+    ensures { answer_of result ≡ capability_answer points.now room }
 {
     let good = points_hold(points) & (room <= 4_000_000);
     if !good {
-        return CapabilityAnswer::Data;
+        return Err(DataRefusal);
     }
-    CapabilityAnswer::Power(capability_of(points, room))
+    Ok(capability_of(points, room))
 }
 
 // ---- the contracted quantity
 
-// What 01 asks of the data.
-fn data_hold(direction: u32, l: Limits, ps: Points, limit: u32) -> bool
-    ensures { result ≡ data_rule direction l ps limit }
-{
-    direction_holds(direction) & limits_hold(l) & points_hold(ps) & (limit <= 4_000_000)
-}
-
-fn capability_or_limit(direction: u32, l: Limits, ps: Points, limit: u32) -> u64
-    requires { data_rule direction l ps limit ≡ true }
-    ensures { result ≡ capability_or_limit direction l ps limit }
-{
-    let room = room_of(direction, l) as u32;
-    common::smaller(capability_of(ps, room), limit as u64)
-}
-
-fn availability_holds(available: u32) -> bool
-    ensures { result ≡ availability_rule available }
-{
-    available <= 1
-}
-
-fn energies_hold(e: Energies) -> bool
-    ensures { result ≡ energies_rule e }
-{
-    (e.offer <= 10_000_000) & (e.bid <= 10_000_000)
-}
-
-// The offer energy in direction 1, the bid energy in direction 2.
-fn energy_of(direction: u32, e: Energies) -> u32
-    ensures { result ≡ energy_of direction e }
-{
-    let low = direction == 1;
-    if low {
-        return e.offer;
+impl Energies {
+    fn hold(self) -> bool
+        ensures { result ≡ energies_rule self }
+    {
+        (self.offer <= 10_000_000) & (self.bid <= 10_000_000)
     }
-    e.bid
+
+    fn of(self, direction: Direction) -> u32
+        ensures { result ≡ energy_of (direction_number direction) self }
+    {
+        match direction {
+            Direction::Low => self.offer,
+            Direction::High => self.bid,
+        }
+    }
 }
 
 // Not available, or without energy in that direction.
-fn no_quantity(direction: u32, available: u32, e: Energies) -> bool
-    ensures { result ≡ no_quantity direction available e }
+fn no_quantity(direction: Direction, available: Availability, energies: Energies) -> bool
+    ensures { result ≡ no_quantity (direction_number direction) (availability_number available) energies }
 {
-    (available == 0) | (energy_of(direction, e) == 0)
+    (available == Availability::Unavailable) | (energies.of(direction) == 0)
+}
+
+#[tactic(auto, unfolding(crate::specs::Quantity::capability_or_limit))]
+fn capability_or_limit(direction: Direction, limits: Limits, points: &[Point], limit: u32) -> u64
+    requires limits { limits_rule limits ≡ true }
+    requires points { points_rule points.now ≡ true }
+    ensures { result ≡ capability_or_limit (direction_number direction) limits points.now limit }
+{
+    let room = limits.room(direction) as u32;
+    capability_of(points, room).min(limit as u64)
 }
 
 // The smaller of capability and submitted limit for a unit that is available and has energy in that direction, else 0.
-#[tactic(auto, unfolding(crate::specs::Quantity::quantity_answer, crate::specs::Quantity::quantity_of))]
+#[tactic(auto, unfolding(crate::specs::Quantity::quantity_answer, crate::specs::Quantity::quantity_of, crate::specs::Quantity::data_rule))]
 pub fn quantity(
     direction: u32,
     available: u32,
     energies: Energies,
     limits: Limits,
-    points: Points,
+    points: &[Point],
     limit: u32,
-) -> QuantityAnswer
-    ensures { answer_of_quantity result ≡ quantity_answer direction available energies limits points limit }
+) -> Result<u64, QuantityRefusal>
+    ensures { answer_of_quantity result ≡ quantity_answer direction available energies limits points.now limit }
 {
-    let good = data_hold(direction, limits, points, limit) & availability_holds(available);
+    let direction = Direction::try_from(direction)?;
+    let available = Availability::try_from(available)?;
+    let good = limits.hold() & points_hold(points) & (limit <= 4_000_000);
     if !good {
-        return QuantityAnswer::Data;
+        return Err(QuantityRefusal::Data);
     }
-    if !energies_hold(energies) {
-        return QuantityAnswer::Energy;
+    if !energies.hold() {
+        return Err(QuantityRefusal::Energy);
     }
     if no_quantity(direction, available, energies) {
-        return QuantityAnswer::Quantity(0);
+        return Ok(0);
     }
-    QuantityAnswer::Quantity(capability_or_limit(direction, limits, points, limit))
+    Ok(capability_or_limit(direction, limits, points, limit))
 }

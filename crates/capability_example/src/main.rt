@@ -2,22 +2,14 @@
 // capability. Then the contracted quantities of 02, No. 6, four for a direction.
 #![tactic(auto)]
 
-use capability::{CapabilityAnswer, Energies, Limits, Point, Points, QuantityAnswer};
+use capability::{Energies, Limits, Point};
 use std::io;
 
-// A number right-justified in nine columns.
-fn write_number(rt: &impl Print, n: u64) -> io::Result<()> {
-    print!(rt; "{n:>9}")
-}
-
-fn write_refused(rt: &impl Print) -> io::Result<()> {
-    rt.write_all(b"  refused")
-}
-
-fn write_answer(rt: &impl Print, answer: CapabilityAnswer) -> io::Result<()> {
+// The answer in nine columns.
+fn write_answer<R: Copy>(rt: &impl Print, answer: Result<u64, R>) -> io::Result<()> {
     match answer {
-        CapabilityAnswer::Power(kw) => write_number(rt, kw),
-        CapabilityAnswer::Data => write_refused(rt),
+        Ok(kw) => print!(rt; "{kw:>9}"),
+        Err(_) => print!(rt; "{:>9}", "refused"),
     }
 }
 
@@ -40,53 +32,57 @@ fn write_quantity(
     rt: &impl Print,
     direction: u32,
     available: u32,
-    offer: u32,
-    bid: u32,
+    energies: Energies,
     l: Limits,
-    points: Points,
+    points: &[Point],
 ) -> io::Result<()> {
-    let energies = Energies { offer, bid };
     let answer = capability::quantity(direction, available, energies, l, points, 4_000_000);
-    match answer {
-        QuantityAnswer::Quantity(kw) => write_number(rt, kw),
-        QuantityAnswer::Data => write_refused(rt),
-        QuantityAnswer::Energy => write_refused(rt),
-    }
+    write_answer(rt, answer)
+}
+
+fn energies(offer: u32, bid: u32) -> Energies {
+    Energies { offer, bid }
 }
 
 // With energy for offers and for bids, with none for offers, with none for bids, and of a unit that is not available.
-fn write_quantities(rt: &impl Print, direction: u32, l: Limits, points: Points) -> io::Result<()> {
-    write_quantity(rt, direction, 1, 1, 1, l, points)?;
-    write_quantity(rt, direction, 1, 0, 1, l, points)?;
-    write_quantity(rt, direction, 1, 1, 0, l, points)?;
-    write_quantity(rt, direction, 0, 1, 1, l, points)
+fn write_quantities(
+    rt: &impl Print,
+    direction: u32,
+    l: Limits,
+    points: &[Point],
+) -> io::Result<()> {
+    write_quantity(rt, direction, 1, energies(1, 1), l, points)?;
+    write_quantity(rt, direction, 1, energies(0, 1), l, points)?;
+    write_quantity(rt, direction, 1, energies(1, 0), l, points)?;
+    write_quantity(rt, direction, 0, energies(1, 1), l, points)
 }
 
 // Both rooms, and the quantities low and high of a unit whose capability is its room.
 fn write_rooms(rt: &impl Print, l: Limits) -> io::Result<()> {
-    let blank = point(0, 0);
-    let points = [blank, point(4_000_000, 4_000_000), blank, blank, blank];
-    let equal = Points { count: 2, points };
+    let equal = [point(0, 0), point(4_000_000, 4_000_000)];
     write_answer(rt, capability::room(1, l))?;
     write_answer(rt, capability::room(2, l))?;
-    write_quantities(rt, 1, l, equal)?;
-    write_quantities(rt, 2, l, equal)?;
-    rt.write_all(b"\n")
+    write_quantities(rt, 1, l, &equal)?;
+    write_quantities(rt, 2, l, &equal)?;
+    println!(rt;)
 }
 
-fn write_capability(rt: &impl Print, direction: u32, l: Limits, points: Points) -> io::Result<()> {
+// The capability at a room, which is 4,000,000 at most.
+fn write_capability(
+    rt: &impl Print,
+    direction: u32,
+    l: Limits,
+    points: &[Point],
+) -> io::Result<()> {
     let room = capability::room(direction, l);
     write_answer(rt, room)?;
-    match room {
-        CapabilityAnswer::Power(kw) => {
-            if kw <= 4_000_000 {
-                write_answer(rt, capability::capability(points, kw as u32))?;
-            }
+    if let Ok(kw) = room {
+        if let Ok(kw) = u32::try_from(kw) {
+            write_answer(rt, capability::capability(points, kw))?;
         }
-        CapabilityAnswer::Data => {}
     }
     write_quantities(rt, direction, l, points)?;
-    rt.write_all(b"\n")
+    println!(rt;)
 }
 
 // The text gives the rooms, and that the unit is at SEL in the second line and at SIL in the last. Its figures are not
@@ -102,46 +98,35 @@ fn appendix_1(rt: &impl Print) -> io::Result<()> {
 
 // MIL and SIL are 0 where the text gives none.
 fn low_frequency(rt: &impl Print) -> io::Result<()> {
-    let blank = point(0, 0);
-    let points = [
-        blank,
+    let curve = [
+        point(0, 0),
         point(10_000, 9_000),
         point(50_000, 25_000),
         point(100_000, 40_000),
-        blank,
     ];
-    let curve = Points { count: 4, points };
-    write_capability(rt, 1, limits(0, 0, 0, 100_000, 50_000), curve)?;
-    write_capability(rt, 1, limits(0, 0, 0, 100_000, 70_000), curve)?;
+    write_capability(rt, 1, limits(0, 0, 0, 100_000, 50_000), &curve)?;
+    write_capability(rt, 1, limits(0, 0, 0, 100_000, 70_000), &curve)?;
     write_capability(
         rt,
         1,
         limits(-100_000, -10_000, 10_000, 100_000, -50_000),
-        curve,
+        &curve,
     )?;
-    write_capability(rt, 1, limits(-100_000, 0, 0, 100_000, -50_000), curve)
+    write_capability(rt, 1, limits(-100_000, 0, 0, 100_000, -50_000), &curve)
 }
 
 // The last line has the 100 MW of the rule; 003 prints 80.
 fn high_frequency(rt: &impl Print) -> io::Result<()> {
-    let blank = point(0, 0);
-    let points = [
-        blank,
-        point(30_000, 20_000),
-        point(100_000, 60_000),
-        blank,
-        blank,
-    ];
-    let curve = Points { count: 3, points };
-    write_capability(rt, 2, limits(0, 0, 10_000, 100_000, 40_000), curve)?;
-    write_capability(rt, 2, limits(-50_000, 0, 0, 50_000, 15_000), curve)?;
+    let curve = [point(0, 0), point(30_000, 20_000), point(100_000, 60_000)];
+    write_capability(rt, 2, limits(0, 0, 10_000, 100_000, 40_000), &curve)?;
+    write_capability(rt, 2, limits(-50_000, 0, 0, 50_000, 15_000), &curve)?;
     write_capability(
         rt,
         2,
         limits(-50_000, -10_000, 10_000, 50_000, -26_000),
-        curve,
+        &curve,
     )?;
-    write_capability(rt, 2, limits(-100_000, 0, 0, 100_000, 70_000), curve)
+    write_capability(rt, 2, limits(-100_000, 0, 0, 100_000, 70_000), &curve)
 }
 
 fn main(rt: HostRuntime) -> io::Result<()> {

@@ -20,7 +20,8 @@ use Rattle.instructions.specs.EveryList.{after, run}
 use Rattle.instructions.proofs.Due.{Rests, rejected-rests, by-due}
 use Rattle.instructions.proofs.Steps.{Step, left, done, steps}
 use Rattle.host.specs.MachineBytes.{state_fields, fields_of, machine_bytes, machine_rule, machine_in, TimesFit}
-use Rattle.host.specs.Instruction.{Call, action_of, is_event, conditions_of, event_of, in_bytes, instructing, machine_after}
+use Rattle.host.specs.declared.Call.{Call}
+use Rattle.host.specs.Instruction.{action_of, is_event, conditions_of, event_of, in_bytes, instructing, machine_after}
 use Rattle.host.specs.EveryCall.{call_fits, bytes_after, events_of, BytesFollow}
 use Rattle.host.proofs.Instructing.{not_good, is-followed}
 use Rattle.host.proofs.MachineBytes.{machine-back, zeros-fresh}

@@ -1,6 +1,6 @@
 pub mod EveryCall
 pub mod Instructing
 pub mod MachineBytes
-pub mod Numbers
+pub mod PairBytes
 pub mod Paying
 pub mod TestDay

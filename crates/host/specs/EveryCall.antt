@@ -9,7 +9,8 @@ use Rattle.instructions.specs.declared.Event.{Event}
 use Rattle.instructions.specs.Instructions.{fresh, following}
 use Rattle.instructions.specs.EveryList.{run}
 use Rattle.host.specs.MachineBytes.{machine_bytes}
-use Rattle.host.specs.Instruction.{Call, is_event, event_of, in_bytes, instructing, machine_after}
+use Rattle.host.specs.declared.Call.{Call}
+use Rattle.host.specs.Instruction.{is_event, event_of, in_bytes, instructing, machine_after}
 
 -- both times are any u64
 abbrev pub call_fits : Call → Bool

@@ -6,19 +6,13 @@ use Rattle.instructions.specs.declared.Conditions.{Conditions}
 use Rattle.instructions.specs.declared.Action.{Action}
 use Rattle.instructions.specs.declared.Action.TheVariants.{Start, Cease, Accept, Reject, Tick}
 use Rattle.instructions.specs.declared.Event.{Event}
-use Rattle.instructions.specs.Instructions.{following}
+use Rattle.instructions.specs.Instructions.{refusal_number, following}
+use Rattle.host.specs.declared.Call.{Call}
+use Rattle.host.specs.declared.InstructionRefusal.{InstructionRefusal}
+use Rattle.host.specs.declared.InstructionRefusal.TheVariants.{Malformed, Follow}
 use Rattle.host.specs.MachineBytes.{machine_bytes, machine_rule, machine_in}
 
 -- the numbers that C hands over beside the machine
-pub record Call : Type 0 where
-  pub event : ℕ
-  pub time : ℕ
-  pub at : ℕ
-  pub limit : ℕ
-  pub available : ℕ
-  pub armed : ℕ
-  pub energy : ℕ
-
 abbrev pub call_of : ℕ → ℕ → ℕ → ℕ → ℕ → ℕ → ℕ → Call
 call_of event time at limit available armed energy =
     record { event = event; time = time; at = at; limit = limit; available = available; armed = armed; energy = energy }
@@ -58,3 +52,8 @@ instructing bytes c = cond (machine_rule bytes && is_event c) (in_bytes (followi
 -- every byte of the machine afterwards; where the call is refused, those of before
 abbrev pub machine_after : List ℕ → Call → List ℕ
 machine_after bytes c = or_blank bytes (instructing bytes c)
+
+-- the number of each of the code's refusals
+abbrev pub instruction_number : InstructionRefusal → ℕ
+instruction_number Malformed = 13
+instruction_number (Follow refusal) = refusal_number refusal

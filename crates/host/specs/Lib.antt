@@ -3,6 +3,7 @@ pub mod Convention
 pub mod EveryCall
 pub mod Instruction
 pub mod MachineBytes
+pub mod Pairs
 pub mod Pieces
 pub mod Points
 pub mod TestDay

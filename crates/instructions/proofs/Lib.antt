@@ -2,6 +2,4 @@ pub mod Carried
 pub mod Delivery
 pub mod Due
 pub mod EveryList
-pub mod Following
 pub mod Steps
-pub mod Times

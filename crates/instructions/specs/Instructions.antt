@@ -1,7 +1,7 @@
 -- Paper 02, No. 2: the machine that follows the start and cease instructions of one direction; of No. 6, the energy of a start.
 -- Assumes nothing.
-use Rattle.std.specs.Prelude.{Bool, true, false, not, cond, ◌&&◌, List, [], ◌∷◌, ℕ, ◌+◌, leb, ltb}
-use Rattle.common.specs.Answer.{Answer, refused, given, Cause, cause, checked}
+use Rattle.std.specs.Prelude.{Bool, true, false, not, cond, ◌&&◌, List, [], ◌∷◌, Result, ℕ, ◌+◌, leb, ltb}
+use Rattle.common.specs.Answer.{Answer, Cause, cause, checked, answered}
 use Rattle.instructions.specs.declared.Pending.{Pending}
 use Rattle.instructions.specs.declared.State.{State}
 use Rattle.instructions.specs.declared.State.TheVariants.{Idle, StartPending, Delivering, CeasePending}
@@ -10,8 +10,8 @@ use Rattle.instructions.specs.declared.Conditions.{Conditions}
 use Rattle.instructions.specs.declared.Action.{Action}
 use Rattle.instructions.specs.declared.Action.TheVariants.{Start, Cease, Accept, Reject, Tick}
 use Rattle.instructions.specs.declared.Event.{Event}
-use Rattle.instructions.specs.declared.FollowAnswer.{FollowAnswer}
-use Rattle.instructions.specs.declared.FollowAnswer.TheVariants.{Followed, Earlier, TooSoon, Unsuited}
+use Rattle.instructions.specs.declared.FollowRefusal.{FollowRefusal}
+use Rattle.instructions.specs.declared.FollowRefusal.TheVariants.{Earlier, TooSoon, Unsuited}
 
 -- a fresh machine is idle with last time 0
 abbrev pub fresh : Machine
@@ -135,9 +135,12 @@ moved m e = record { state = due_by e.time (acted e.time e.action (due_by e.time
 unfoldable pub following : Machine → Event → Answer Machine
 following m e = checked (following_causes m e) (moved m e)
 
--- the number, or the machine afterwards, of each case of the code's answer
-abbrev pub answer_of : FollowAnswer → Answer Machine
-answer_of (Followed m) = given m
-answer_of Earlier = refused 15
-answer_of TooSoon = refused 16
-answer_of Unsuited = refused 17
+-- the number of each of the code's refusals
+abbrev pub refusal_number : FollowRefusal → ℕ
+refusal_number Earlier = 15
+refusal_number TooSoon = 16
+refusal_number Unsuited = 17
+
+-- the machine afterwards, or the refusal's number
+abbrev pub answer_of : Result Machine FollowRefusal → Answer Machine
+answer_of = answered refusal_number

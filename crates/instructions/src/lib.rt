@@ -2,8 +2,9 @@
 #![tactic(auto)]
 
 ghost use Rattle.std.specs.Prelude.{◌≡◌};
-ghost use Rattle.common.specs.Answer.{number_of};
-ghost use Rattle.instructions.specs.Instructions.{fresh, acceptance, accepted, rejected, effective, late, pending_by, due_by, soon, too_soon, idle, delivering, unanswered, conditions_met, suits, acted, following, answer_of};
+ghost use Rattle.instructions.specs.Instructions.{fresh, issued, acceptance, accepted, rejected, effective, late, pending_by, due_by, soon, too_soon, unanswered, conditions_met, suits, acted, refusal_number, answer_of, following};
+
+use common::Refusal;
 
 // An instruction that is pending: its issue, its start or cease time, and whether it was accepted.
 #[derive(Clone, Copy)]
@@ -54,16 +55,26 @@ pub struct Event {
     pub action: Action,
 }
 
-#[derive(Clone, Copy)]
-pub enum FollowAnswer {
-    // The machine afterwards.
-    Followed(Machine),
+#[derive(Clone, Copy, Debug, PartialEq, Eq)]
+pub enum FollowRefusal {
     // The event is earlier than the last one.
     Earlier,
     // The start or cease time is under 120 after its issue.
     TooSoon,
     // A start condition is unmet, or the event does not suit the state.
     Unsuited,
+}
+
+impl Refusal for FollowRefusal {
+    ghost refusal = { refusal_number };
+
+    fn number(self) -> u32 {
+        match self {
+            FollowRefusal::Earlier => 15,
+            FollowRefusal::TooSoon => 16,
+            FollowRefusal::Unsuited => 17,
+        }
+    }
 }
 
 pub fn fresh_machine() -> Machine
@@ -75,88 +86,105 @@ pub fn fresh_machine() -> Machine
     }
 }
 
-// ---- what becomes of a pending instruction
-
-fn with_acceptance(p: Pending) -> Pending
-    ensures { result ≡ acceptance p }
-{
-    Pending {
-        issue: p.issue,
-        at: p.at,
-        accepted: true,
-    }
-}
-
-fn accepted_state(s: State) -> State
-    ensures { result ≡ accepted s }
-{
-    match s {
-        State::Idle => State::Idle,
-        State::StartPending(p) => State::StartPending(with_acceptance(p)),
-        State::Delivering => State::Delivering,
-        State::CeasePending(p) => State::CeasePending(with_acceptance(p)),
-    }
-}
-
-fn rejected_state(s: State) -> State
-    ensures { result ≡ rejected s }
-{
-    match s {
-        State::Idle => State::Idle,
-        State::StartPending(_) => State::Idle,
-        State::Delivering => State::Delivering,
-        State::CeasePending(_) => State::Delivering,
-    }
-}
-
-fn effective_state(s: State) -> State
-    ensures { result ≡ effective s }
-{
-    match s {
-        State::Idle => State::Idle,
-        State::StartPending(_) => State::Delivering,
-        State::Delivering => State::Delivering,
-        State::CeasePending(_) => State::Idle,
-    }
-}
-
-// ---- what is due by a time
-
-// More than 120 after issue; the sum of issue and 120 might not fit.
-fn is_late(issue: u64, time: u64) -> bool
-    ensures { result ≡ late issue time }
-{
-    if time < issue {
-        return false;
-    }
-    120 < time - issue
-}
-
-// What a state comes to by a time, whose pending instruction is p.
-fn pending_by(time: u64, p: Pending, s: State) -> State
-    ensures { result ≡ pending_by time p s }
-{
-    if p.accepted {
-        if p.at <= time {
-            return effective_state(s);
+impl Pending {
+    fn issued(issue: u64, at: u64) -> Pending
+        ensures { result ≡ issued issue at }
+    {
+        Pending {
+            issue,
+            at,
+            accepted: false,
         }
-        return s;
     }
-    if is_late(p.issue, time) {
-        return rejected_state(s);
+
+    fn with_acceptance(self) -> Pending
+        ensures { result ≡ acceptance self }
+    {
+        Pending {
+            accepted: true,
+            ..self
+        }
     }
-    s
+
+    // More than 120 after issue; the sum of issue and 120 might not fit.
+    fn is_late(self, time: u64) -> bool
+        ensures { result ≡ late self.issue time }
+    {
+        120 < time.saturating_sub(self.issue)
+    }
 }
 
-#[tactic(auto, unfolding(crate::specs::Instructions::due_by))]
-fn due_by(time: u64, s: State) -> State
-    ensures { result ≡ due_by time s }
-{
-    match s {
-        State::Idle => State::Idle,
-        State::StartPending(p) => pending_by(time, p, s),
-        State::Delivering => State::Delivering,
-        State::CeasePending(p) => pending_by(time, p, s),
+impl State {
+    // ---- what becomes of a pending instruction
+
+    fn accepted(self) -> State
+        ensures { result ≡ accepted self }
+    {
+        match self {
+            State::StartPending(p) => State::StartPending(p.with_acceptance()),
+            State::CeasePending(p) => State::CeasePending(p.with_acceptance()),
+            State::Idle | State::Delivering => self,
+        }
+    }
+
+    fn rejected(self) -> State
+        ensures { result ≡ rejected self }
+    {
+        match self {
+            State::StartPending(_) => State::Idle,
+            State::CeasePending(_) => State::Delivering,
+            State::Idle | State::Delivering => self,
+        }
+    }
+
+    fn effective(self) -> State
+        ensures { result ≡ effective self }
+    {
+        match self {
+            State::StartPending(_) => State::Delivering,
+            State::CeasePending(_) => State::Idle,
+            State::Idle | State::Delivering => self,
+        }
+    }
+
+    // ---- what is due by a time
+
+    // Where p is the pending instruction.
+    #[tactic(auto, unfolding(crate::specs::Instructions::pending_by))]
+    fn pending_by(self, time: u64, p: Pending) -> State
+        ensures { result ≡ pending_by time p self }
+    {
+        if p.accepted {
+            if p.at <= time {
+                return self.effective();
+            }
+            return self;
+        }
+        if p.is_late(time) {
+            return self.rejected();
+        }
+        self
+    }
+
+    #[tactic(auto, unfolding(crate::specs::Instructions::due_by))]
+    fn due_by(self, time: u64) -> State
+        ensures { result ≡ due_by time self }
+    {
+        match self {
+            State::StartPending(p) | State::CeasePending(p) => self.pending_by(time, p),
+            State::Idle | State::Delivering => self,
+        }
+    }
+
+    // ---- what suits an answer
+
+    fn is_unanswered(self) -> bool
+        ensures { result ≡ unanswered self }
+    {
+        match self {
+            State::StartPending(p) | State::CeasePending(p) => !p.accepted,
+            State::Idle | State::Delivering => false,
+        }
     }
 }
 
@@ -166,128 +194,76 @@ fn due_by(time: u64, s: State) -> State
 fn is_soon(issue: u64, at: u64) -> bool
     ensures { result ≡ soon issue at }
 {
-    if at < issue {
-        return true;
-    }
-    at - issue < 120
+    at.saturating_sub(issue) < 120
 }
 
-fn is_too_soon(time: u64, action: Action) -> bool
-    ensures { result ≡ too_soon time action }
-{
-    match action {
-        Action::Start { at, conditions: _ } => is_soon(time, at),
-        Action::Cease { at } => is_soon(time, at),
-        Action::Accept => false,
-        Action::Reject => false,
-        Action::Tick => false,
+impl Conditions {
+    fn met(self) -> bool
+        ensures { result ≡ conditions_met self }
+    {
+        (0 < self.limit)
+            & self.available
+            & self.armed
+            & (1 <= self.energy)
+            & (self.energy <= 10_000_000)
     }
 }
 
-fn is_idle(s: State) -> bool
-    ensures { result ≡ idle s }
-{
-    match s {
-        State::Idle => true,
-        State::StartPending(_) => false,
-        State::Delivering => false,
-        State::CeasePending(_) => false,
+impl Action {
+    fn is_too_soon(self, time: u64) -> bool
+        ensures { result ≡ too_soon time self }
+    {
+        match self {
+            Action::Start { at, .. } | Action::Cease { at } => is_soon(time, at),
+            Action::Accept | Action::Reject | Action::Tick => false,
+        }
     }
-}
 
-fn is_delivering(s: State) -> bool
-    ensures { result ≡ delivering s }
-{
-    match s {
-        State::Idle => false,
-        State::StartPending(_) => false,
-        State::Delivering => true,
-        State::CeasePending(_) => false,
+    fn suits(self, s: State) -> bool
+        ensures { result ≡ suits self s }
+    {
+        match self {
+            Action::Start { conditions, .. } => conditions.met() & matches!(s, State::Idle),
+            Action::Cease { .. } => matches!(s, State::Delivering),
+            Action::Accept | Action::Reject => s.is_unanswered(),
+            Action::Tick => true,
+        }
     }
-}
 
-fn is_unanswered(s: State) -> bool
-    ensures { result ≡ unanswered s }
-{
-    match s {
-        State::Idle => false,
-        State::StartPending(p) => !p.accepted,
-        State::Delivering => false,
-        State::CeasePending(p) => !p.accepted,
-    }
-}
-
-fn conditions_met(c: Conditions) -> bool
-    ensures { result ≡ conditions_met c }
-{
-    (0 < c.limit) & c.available & c.armed & (1 <= c.energy) & (c.energy <= 10_000_000)
-}
-
-fn is_suited(action: Action, s: State) -> bool
-    ensures { result ≡ suits action s }
-{
-    match action {
-        Action::Start { at: _, conditions } => conditions_met(conditions) & is_idle(s),
-        Action::Cease { at: _ } => is_delivering(s),
-        Action::Accept => is_unanswered(s),
-        Action::Reject => is_unanswered(s),
-        Action::Tick => true,
-    }
-}
-
-// What the event does to a state that it suits.
-fn acted_state(time: u64, action: Action, s: State) -> State
-    ensures { result ≡ acted time action s }
-{
-    match action {
-        Action::Start { at, conditions: _ } => State::StartPending(Pending {
-            issue: time,
-            at,
-            accepted: false,
-        }),
-        Action::Cease { at } => State::CeasePending(Pending {
-            issue: time,
-            at,
-            accepted: false,
-        }),
-        Action::Accept => accepted_state(s),
-        Action::Reject => rejected_state(s),
-        Action::Tick => s,
+    // What the event does to a state that it suits.
+    fn acted(self, time: u64, s: State) -> State
+        ensures { result ≡ acted time self s }
+    {
+        match self {
+            Action::Start { at, .. } => State::StartPending(Pending::issued(time, at)),
+            Action::Cease { at } => State::CeasePending(Pending::issued(time, at)),
+            Action::Accept => s.accepted(),
+            Action::Reject => s.rejected(),
+            Action::Tick => s,
+        }
     }
 }
 
 // Follows an event: refusals 15, 16, 17.
-pub fn follow(m: Machine, e: Event) -> FollowAnswer
+#[tactic(auto, unfolding(crate::specs::Instructions::following))]
+pub fn follow(m: Machine, e: Event) -> Result<Machine, FollowRefusal>
     ensures { answer_of result ≡ following m e }
 {
-    let state = m.state;
-    let time = e.time;
-    let action = e.action;
-    if time < m.last {
-        return FollowAnswer::Earlier;
+    let Machine { state, last } = m;
+    let Event { time, action } = e;
+    if time < last {
+        return Err(FollowRefusal::Earlier);
     }
-    if is_too_soon(time, action) {
-        return FollowAnswer::TooSoon;
+    if action.is_too_soon(time) {
+        return Err(FollowRefusal::TooSoon);
     }
-    let before = due_by(time, state);
-    if !is_suited(action, before) {
-        return FollowAnswer::Unsuited;
+    let before = state.due_by(time);
+    if !action.suits(before) {
+        return Err(FollowRefusal::Unsuited);
     }
-    let after = acted_state(time, action, before);
-    FollowAnswer::Followed(Machine {
-        state: due_by(time, after),
+    let after = action.acted(time, before);
+    Ok(Machine {
+        state: after.due_by(time),
         last: time,
     })
-}
-
-// The number of an answer, 0 where the event was carried out.
-pub fn number(answer: FollowAnswer) -> u32
-    ensures { result ≡ number_of (answer_of answer) }
-{
-    match answer {
-        FollowAnswer::Followed(_) => 0,
-        FollowAnswer::Earlier => 15,
-        FollowAnswer::TooSoon => 16,
-        FollowAnswer::Unsuited => 17,
-    }
 }

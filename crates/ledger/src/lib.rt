@@ -96,22 +96,23 @@ impl Needs {
     }
 
     // Whether state + purchase lies from low to size less high.
-    fn accept(self, state: u32, size: u32, purchase: i64) -> bool
-        ensures { result ≡ within (pos self.low) (pos state +ℤ purchase) (pos size -ℤ pos self.high) }
+    fn accept(self, given: &Record, purchase: i64) -> bool
+        ensures { result ≡ within (pos self.low) (pos given.now.state +ℤ purchase) (pos given.now.size -ℤ pos self.high) }
     {
-        let up = state as u64 + signed::above_zero(purchase);
+        let size = given.size as u64;
+        let up = given.state as u64 + signed::above_zero(purchase);
         let down = signed::below_zero(purchase);
-        (self.low + down <= up) & (up + self.high <= size as u64 + down)
+        (self.low + down <= up) & (up + self.high <= size + down)
     }
 
     // What brings the state to low or more and to size less high or less.
-    fn proposal(self, state: u32, size: u32) -> i64
-        ensures { result ≡ toward (pos self.low) (pos state) (pos size -ℤ pos self.high) }
+    fn proposal(self, given: &Record) -> i64
+        ensures { result ≡ toward (pos self.low) (pos given.now.state) (pos given.now.size -ℤ pos self.high) }
     {
         let low = self.low;
         let high = self.high;
-        let state = state as u64;
-        let size = size as u64;
+        let state = given.state as u64;
+        let size = given.size as u64;
         if state < low {
             return signed::difference(low, state);
         }
@@ -131,7 +132,7 @@ pub fn check_purchase(given: &Record, purchase: i64) -> Result<(), CheckRefusal>
     let Some(standing) = usable_standing(given) else {
         return Err(CheckRefusal::Unusable);
     };
-    if !Needs::of(standing).accept(given.state, given.size, purchase) {
+    if !Needs::of(standing).accept(given, purchase) {
         return Err(CheckRefusal::Purchase);
     }
     Ok(())
@@ -157,7 +158,7 @@ pub fn propose_purchase(given: &Record) -> Result<i64, ProposeRefusal>
     let Some(standing) = usable_standing(given) else {
         return Err(ProposeRefusal::Unusable);
     };
-    Ok(Needs::of(standing).proposal(given.state, given.size))
+    Ok(Needs::of(standing).proposal(given))
 }
 
 impl Refusal for ProposeRefusal {
@@ -179,19 +180,21 @@ fn within_bound(energy: i64, bound: u32) -> bool
 }
 
 // The new state, where a closing settles.
-fn settle(state: u32, size: u32, bounds: Directions<u32>, asked: Closing) -> Option<u32>
-    ensures { result ≡ settling bounds.low bounds.high size asked.delivered asked.taken (moved (pos state) asked.purchase asked.delivered asked.taken) }
+fn settle(given: &Record, bounds: Directions<u32>, asked: Closing) -> Option<u32>
+    ensures { result ≡ settling bounds.low bounds.high given.now.size asked.delivered asked.taken (moved (pos given.now.state) asked.purchase asked.delivered asked.taken) }
 {
     if !(within_bound(asked.delivered, bounds.low) & within_bound(asked.taken, bounds.high)) {
         return None;
     }
-    let comes = state as u64 + signed::above_zero(asked.purchase) + signed::above_zero(asked.taken);
+    let state = given.state as u64;
+    let size = given.size as u64;
+    let comes = state + signed::above_zero(asked.purchase) + signed::above_zero(asked.taken);
     let goes = signed::below_zero(asked.purchase) + signed::above_zero(asked.delivered);
     if comes < goes {
         return None;
     }
     let new = comes - goes;
-    if (size as u64) < new {
+    if size < new {
         return None;
     }
     Some(new as u32)
@@ -274,7 +277,7 @@ pub fn close_period(given: &mut Record, asked: Closing, readings: &[u16]) -> Res
     if !is_trader(asked.trader) {
         return Err(CloseRefusal::Trader);
     }
-    if !Needs::of(standing).accept(given.state, given.size, asked.purchase) {
+    if !Needs::of(standing).accept(given, asked.purchase) {
         return Err(CloseRefusal::Purchase);
     }
     let quantities = Directions {
@@ -284,7 +287,7 @@ pub fn close_period(given: &mut Record, asked: Closing, readings: &[u16]) -> Res
     let Ok(bounds) = period_energy::<BySteps>(quantities, given.curves, readings) else {
         return Err(CloseRefusal::Readings);
     };
-    let Some(new) = settle(given.state, given.size, bounds, asked) else {
+    let Some(new) = settle(given, bounds, asked) else {
         return Err(CloseRefusal::Energy);
     };
     carry_out(given, standing, bounds, new, asked);

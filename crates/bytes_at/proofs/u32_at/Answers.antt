@@ -1,11 +1,11 @@
 -- `bytes_at::u32_at` meets its contract. Assumes nothing.
-use mathlib.Core.Path.{◌≡◌}
-use Prim.Native.Nat.{◌+◌}
-use native.Mathlib.Omega.{arith}
+use mathlib.Core.Path.{◌≡◌, ◌∙◌}
+use borrow.Author.Rules.{rules}
+use lib.ListN.{length}
+use Rattle.bytes_at.proofs.Numbers.{from_le_4}
 use Rattle.bytes_at.proofs.u32_at.Goals as goal
 
 pub returns : goal.returns
 returns c =
-    let a = c.args in
-    let p : a.at + 0 ≡ a.at = omega arith in
-    rw p at c.four_at.ensures.0
+    let long : length c.bytes_from.result ≡ 4 = search rules in
+    c.from_le_bytes.ensures ∙ from_le_4 c.bytes_from.result long ∙ c.bytes_from.ensures

@@ -1,9 +1,11 @@
 -- `bytes_at::u64_at` meets its contract. Assumes nothing.
-use native.Mathlib.Omega.{arith}
-use Rattle.bytes_at.proofs.Numbers.{eight_is}
+use mathlib.Core.Path.{◌≡◌, ◌∙◌}
+use borrow.Author.Rules.{rules}
+use lib.ListN.{length}
+use Rattle.bytes_at.proofs.Numbers.{from_le_8}
 use Rattle.bytes_at.proofs.u64_at.Goals as goal
 
 pub returns : goal.returns
 returns c =
-    let a = c.args in
-    omega (arith, eight_is a.at a.bytes.now, c.four_at.ensures.0, c.four_at-2.ensures.0)
+    let long : length c.bytes_from.result ≡ 8 = search rules in
+    c.from_le_bytes.ensures ∙ from_le_8 c.bytes_from.result long ∙ c.bytes_from.ensures

@@ -4,9 +4,6 @@ use Rattle.requirement.specs.Requirement.{matched_to}
 use Rattle.ledger_record.proofs.Entry.{in_parts}
 use Rattle.ledger_record.proofs.direction_of.Goals as goal
 
-pub overflow_mul-most : goal.overflow_mul-most
-overflow_mul-most c = rw c.of-most.ensures (search rules)
-
 pub returns : goal.returns
 unfolding matched_to
 returns c =

@@ -17,5 +17,3 @@ loop-i-preserved c =
     let fits : SFits w64 (get_or c.args.entries.now.starts c.loop-i.i (pos 0)) = search rules in
     step _ _ _ _ _ c.loop-i.invariant c.loop-i-test.true (rw (to_z-of_z fits) at c.entry_within-holds.ensures)
 
-pub returns : goal.returns
-returns c = done _ _ _ _ _ c.loop-i.invariant c.loop-i-test.false

@@ -1,7 +1,6 @@
 -- `ledger_record::sum_of` meets its contract. Assumes nothing.
-use mathlib.Core.Path.{refl, ap, ◌∙◌}
+use mathlib.Core.Path.{refl}
 use native.Mathlib.Omega.{arith}
-use borrow.Author.Rules.{rules}
 use Rattle.common.specs.Lists.{sum}
 use Rattle.common.proofs.Lists.{sum-take}
 use Rattle.ledger_record.proofs.sum_of.Goals as goal
