@@ -233,16 +233,10 @@ fn add_closing(totals: &mut Totals, asked: Closing)
     requires { TotalsFit totals.old asked }
     ensures { totals.new ≡ totals_with totals.old asked }
 {
-    add_to(
-        &mut totals.bought,
-        asked.trader,
-        signed::above_zero(asked.purchase),
-    );
-    add_to(
-        &mut totals.sold,
-        asked.trader,
-        signed::below_zero(asked.purchase),
-    );
+    let bought = signed::above_zero(asked.purchase);
+    let sold = signed::below_zero(asked.purchase);
+    add_to(&mut totals.bought, asked.trader, bought);
+    add_to(&mut totals.sold, asked.trader, sold);
     totals.delivered = total_with(totals.delivered, signed::above_zero(asked.delivered));
     totals.taken = total_with(totals.taken, signed::above_zero(asked.taken));
 }
