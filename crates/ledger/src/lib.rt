@@ -233,8 +233,10 @@ fn add_closing(totals: &mut Totals, asked: Closing)
     requires { TotalsFit totals.old asked }
     ensures { totals.new ≡ totals_with totals.old asked }
 {
-    add_to(&mut totals.bought, asked.trader, signed::above_zero(asked.purchase));
-    add_to(&mut totals.sold, asked.trader, signed::below_zero(asked.purchase));
+    let bought = signed::above_zero(asked.purchase);
+    let sold = signed::below_zero(asked.purchase);
+    add_to(&mut totals.bought, asked.trader, bought);
+    add_to(&mut totals.sold, asked.trader, sold);
     totals.delivered = total_with(totals.delivered, signed::above_zero(asked.delivered));
     totals.taken = total_with(totals.taken, signed::above_zero(asked.taken));
 }
@@ -267,7 +269,11 @@ fn is_trader(trader: u32) -> bool
 }
 
 // Closes a period: refusals 10, 19, 8, 6, 9; a record whose closing is refused stays as it was.
-pub fn close_period(given: &mut Record, asked: Closing, readings: &[u16]) -> Result<(), CloseRefusal>
+pub fn close_period(
+    given: &mut Record,
+    asked: Closing,
+    readings: &[u16],
+) -> Result<(), CloseRefusal>
     ensures answer { close_answer_of result given.new ≡ closing given.old (closing_of asked readings.now) }
     ensures kept { given.new ≡ or_blank given.old (closing given.old (closing_of asked readings.now)) }
 {

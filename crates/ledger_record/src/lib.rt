@@ -169,12 +169,7 @@ pub fn blank_record() -> Record
 }
 
 // Opens a record: refusals 1, 2, 5, 3, 4.
-pub fn open_record(
-    t: Terms,
-    curves: Curves,
-    size: u32,
-    first: u32,
-) -> Result<Record, OpenRefusal>
+pub fn open_record(t: Terms, curves: Curves, size: u32, first: u32) -> Result<Record, OpenRefusal>
     ensures { answer_of result ≡ opening t curves size first }
 {
     check_opening(t, curves, size, first)?;

@@ -1,7 +1,7 @@
 -- The starred examples of paper 01, "Checked examples", and those of paper 02, No. 8, as one list: what the papers print, and what
 -- the definitions give.
 -- `starred-hold` computes the whole list. Assumes nothing.
-use Rattle.std.specs.Prelude.{◌≡◌, refl, Bool, cond, List, [], ◌∷◌, ◌++◌, map, ℕ, ◌*◌, ℤ, pos, neg_ℤ, drop, replicate}
+use Rattle.std.specs.Prelude.{◌≡◌, refl, Bool, cond, List, [], ◌∷◌, ◌++◌, map, ℕ, ◌*◌, ℤ, pos, neg_ℤ, drop}
 use Rattle.common.specs.Answer.{number_of, or_blank}
 use Rattle.common.specs.Lists.{sum, every, some_entry, chain}
 use Rattle.common.specs.Periods.{periods_to}
@@ -13,9 +13,8 @@ use Rattle.monitor.specs.Monitor.{rows_of, monitoring}
 use Rattle.energy.specs.Curve.{regulation_curve, curve_rule, curves_rule, share_from, response}
 use Rattle.energy.specs.Period.{low_deviation}
 use Rattle.capability.specs.declared.Point.{Point}
-use Rattle.capability.specs.declared.Points.{Points}
 use Rattle.capability.specs.Capability.{points_rule, capability_from, capability_of, capability_answer}
-use Rattle.payment.specs.declared.Pieces.{Pieces}
+use Rattle.payment.specs.declared.Piece.{Piece}
 use Rattle.payment.specs.Exact.{total, rounded}
 use Rattle.payment.specs.Payment.{pieces_rule, amount, payment_causes, paying}
 use Rattle.ledger_record.specs.declared.Record.{Record}
@@ -63,20 +62,20 @@ high_table =
 point : ℕ → ℕ → Point
 point room capability = record { room = 1000 * room; capability = 1000 * capability }
 
-low_points : Points
-low_points = record { count = 4; points = point 0 0 ∷ point 10 9 ∷ point 50 25 ∷ point 100 40 ∷ point 0 0 ∷ [] }
+low_points : List Point
+low_points = point 0 0 ∷ point 10 9 ∷ point 50 25 ∷ point 100 40 ∷ []
 
-high_points : Points
-high_points = record { count = 3; points = point 0 0 ∷ point 30 20 ∷ point 100 60 ∷ point 0 0 ∷ point 0 0 ∷ [] }
+high_points : List Point
+high_points = point 0 0 ∷ point 30 20 ∷ point 100 60 ∷ []
 
-capabilities : Points → List ℕ → List ℤ
+capabilities : List Point → List ℕ → List ℤ
 capabilities ps rooms = map (λ (room : ℕ). pos (or_blank 0 (capability_answer ps room))) rooms
 
 -- ---- a payment
 
 -- 10,000 kW for 1,800 seconds
-one_piece : Pieces
-one_piece = record { count = 1; pieces = replicate 64 (record { quantity = 10000; duration = 1800 }) }
+one_piece : List Piece
+one_piece = record { quantity = 10000; duration = 1800 } ∷ []
 
 -- ---- a ledger
 

@@ -1,34 +1,22 @@
 -- `ledger::close_period` meets its contract, by its causes in their order. Assumes nothing.
-use mathlib.Core.Path.{◌≡◌, refl, sym, ap, ◌∙◌}
-use mathlib.Core.List.{List}
-use mathlib.Core.Bool.{true, false, ◌&&◌}
-use Prim.Native.Nat.{ℕ, ◌-◌}
-use native.Mathlib.Omega.{arith}
+use mathlib.Core.Path.{refl, sym, ap, ◌∙◌}
+use Prim.Native.Nat.{ℕ}
 use borrow.Author.Rules.{rules}
-use borrow.Author.Tests.{ltb-false}
 use lib.IntN.{pos}
-use lib.ListN.{length}
 use mir.Facts.{to_z-of_z}
 use mir.Syntax.{w64}
 use mir.Val.{SFits}
 use Rattle.std.proofs.lemmas.Option.{cond_some}
 use Rattle.common.specs.Answer.{given}
 use Rattle.common.specs.declared.Directions.{Directions}
-use Rattle.common.proofs.Lists.{sum-part}
-use Rattle.common.proofs.Tests.{both_true}
-use Rattle.signed.specs.Sign.{above, within}
-use Rattle.terms.specs.Terms.{Q}
-use Rattle.energy.specs.Period.{good_readings, low_bound, high_bound, low_deviation, high_deviation}
+use Rattle.signed.specs.Sign.{above}
+use Rattle.energy.specs.Period.{low_bound, high_bound, low_deviation, high_deviation}
 use Rattle.energy.proofs.Laws.{bound-most}
-use Rattle.ledger_record.specs.declared.Record.{Record}
-use Rattle.ledger_record.proofs.Kept.{kept, opened}
-use Rattle.ledger.specs.declared.Closing.{Closing as Asked}
-use Rattle.ledger.specs.Calls.{unusable, is_trader, accepts, moved, settles, TotalsFit, closing_of}
-use Rattle.ledger.proofs.ByTrader.{trader-in}
-use Rattle.ledger.proofs.Closings.{accepted-most, no-bounds, bounds-are, refused-10, refused-19, refused-8, refused-6, refused-9, carried-out}
+use Rattle.ledger_record.proofs.Kept.{opened}
+use Rattle.ledger.specs.Calls.{moved, settles, closing_of}
+use Rattle.ledger.proofs.Closings.{no-bounds, bounds-are, refused-10, refused-19, refused-8, refused-6, refused-9, carried-out}
 use Rattle.ledger.proofs.NextPeriod.{needs_fit, accepts-is}
-use Rattle.ledger.proofs.Settling.{in_bounds}
-use Rattle.ledger.proofs.Usable.{rule-kept, before_eight, no_value, not_usable, can-use}
+use Rattle.ledger.proofs.Usable.{rule-kept, no_value, not_usable, can-use}
 use Rattle.ledger.proofs.close_period.Goals as goal
 
 pub returns-in_default : goal.returns-in_default

@@ -1,5 +1,4 @@
 -- `ledger_record::direction_of` meets its contract. Assumes nothing.
-use borrow.Author.Rules.{rules}
 use Rattle.requirement.specs.Requirement.{matched_to}
 use Rattle.ledger_record.proofs.Entry.{in_parts}
 use Rattle.ledger_record.proofs.direction_of.Goals as goal
