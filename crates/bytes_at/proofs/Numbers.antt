@@ -26,10 +26,6 @@ first_byte width at bytes = by (dec_lt at (length bytes))
         let on : length bytes ≤ at + 1 = omega arith in
         rw (drop_of_length-le bytes past, drop_of_length-le bytes on, take-nil {A = ℕ} width, get_or-eq_default bytes 0 past)
 
-pub past_end : (width at : ℕ) (bytes : List ℕ) → length bytes ≤ at → number_at width at bytes ≡ 0
-unfolding number
-past_end width at bytes h = rw (drop_of_length-le bytes h, take-nil {A = ℕ} width)
-
 -- of as many bytes from `at` on, with 0 for those past the end
 pub same_number : (from : List ℕ) (at : ℕ) (bytes : List ℕ) → ((i : ℕ) → i < length from → get_or from i 0 ≡ get_or bytes (at + i) 0)
     → number from ≡ number_at (length from) at bytes

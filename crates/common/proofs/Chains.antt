@@ -1,30 +1,12 @@
--- The first `count` entries of a list, and the loops that pass them one by one and test a chain. Assumes nothing.
+-- Chains of entries, and a loop that tests one. Assumes nothing.
 use mathlib.Core.Path.{◌≡◌, ◌∙◌}
 use mathlib.Core.Bool.{Bool, true, false, ◌&&◌}
 use mathlib.Core.List.{List, [], ◌∷◌}
 use Prim.Native.Nat.{ℕ, ◌+◌, ◌≤◌, ◌<◌}
-use native.Mathlib.Omega.{arith}
-use lib.ListN.{length, drop, take, get_or, length-take, drop_of_length-le}
-use lib.Seq.{get_or-take}
+use lib.ListN.{length, drop, get_or, drop_of_length-le}
 use Rattle.common.specs.Lists.{chain}
 use Rattle.common.proofs.Lists.{drop-next}
 use Rattle.common.proofs.Tests.{both_true}
-
--- ---- the entries that are counted, from the i-th on
-
-module _ {A : Type 0} (count : ℕ) (xs : List A) where
-  abbrev pub rest : ℕ → List A
-  rest i = drop i (take count xs)
-
-  pub next : (i : ℕ) (d : A) → i < count → count ≤ length xs → rest i ≡ get_or xs i d ∷ rest (i + 1)
-  next i d h long =
-      let b : i < length (take count xs) = simp length-take (omega arith) in
-      rw (drop-next (take count xs) i d b, get_or-take count xs i d h)
-
-  pub none_left : (i : ℕ) → count ≤ i → rest i ≡ []
-  none_left i h =
-      let l : length (take count xs) ≤ i = simp length-take (omega arith) in
-      drop_of_length-le (take count xs) l
 
 module _ {A : Type 0} (holds : A → Bool) (linked : A → A → Bool) where
   -- ---- what a chain says of its entries

@@ -1,12 +1,12 @@
 -- Sums and tests over lists. Assumes nothing.
-use mathlib.Core.Path.{◌≡◌, refl, sym, ◌∙◌}
-use mathlib.Core.Bool.{Bool, true, false, ◌&&◌, ◌||◌, and_assoc, and-false}
+use mathlib.Core.Path.{◌≡◌, refl, sym}
+use mathlib.Core.Bool.{Bool, true, false, ◌&&◌, and_assoc, and-false}
 use mathlib.Core.List.{List, [], ◌∷◌, ◌++◌, map, map-append}
 use Prim.Native.Nat.{ℕ, zero, suc, ◌+◌, ◌*◌, ◌≤◌, ◌<◌}
 use native.Mathlib.Nat.{add-zero, mul-suc, zero-add}
 use native.Mathlib.Numerals.{add-one}
 use native.Mathlib.Omega.{arith}
-use lib.ListN.{length, get_or, set, take, drop, replicate, drop_of_length-le}
+use lib.ListN.{length, get_or, set, take, drop, replicate}
 use lib.Seq.{take-suc, drop-cons}
 use Rattle.common.specs.Lists.{sum, every, every_from, some_entry}
 use Rattle.common.proofs.Tests.{both_true, neither}
@@ -144,22 +144,6 @@ module _ {A : Type 0} (holds : ℕ → A → Bool) (d : A) where
 
   pub every-entry : (xs : List A) → ((i : ℕ) → i < length xs → holds i (get_or xs i d) ≡ true) → every_from 0 holds xs ≡ true
   every-entry xs h = from_entries 0 xs (λ i l. rw (zero-add i) (h i l))
-
--- ---- a loop that looks for an entry: what is left of the list says the same as the whole
-module _ {A : Type 0} (holds : A → Bool) (xs : List A) (i : ℕ) (d : A) where
-  some-split : i < length xs → some_entry holds (drop i xs) ≡ holds (get_or xs i d) || some_entry holds (drop (i + 1) xs)
-  unfolding some_entry
-  some-split h = rw (drop-next xs i d h)
-
-  pub some-found : i < length xs → some_entry holds (drop i xs) ≡ some_entry holds xs → holds (get_or xs i d) ≡ true → true ≡ some_entry holds xs
-  some-found h same t = sym (rw t at (some-split h)) ∙ same
-
-  pub some-passed : i < length xs → some_entry holds (drop i xs) ≡ some_entry holds xs → holds (get_or xs i d) ≡ false → some_entry holds (drop (i + 1) xs) ≡ some_entry holds xs
-  some-passed h same t = sym (rw t at (some-split h)) ∙ same
-
-pub some-none : {A : Type 0} (holds : A → Bool) (xs : List A) (i : ℕ) → length xs ≤ i → some_entry holds (drop i xs) ≡ some_entry holds xs → false ≡ some_entry holds xs
-unfolding some_entry
-some-none holds xs i h same = rw (drop_of_length-le xs h) at same
 
 -- where no entry holds, and neither does what stands past the last
 pub some-not : {A : Type 0} (holds : A → Bool) (xs : List A) (i : ℕ) (d : A) → holds d ≡ false → some_entry holds xs ≡ false → holds (get_or xs i d) ≡ false

@@ -25,11 +25,6 @@ module _ (bytes : List ℕ) (c : Call) where
   unfolding instructing
   is-followed h = rw h
 
--- C gets the same number for a machine as for its bytes
-pub coded-same : (a : Answer Machine) → coded done a ≡ coded done (in_bytes a)
-coded-same (refused n) = refl
-coded-same (given m) = refl
-
 -- bytes that are a machine are 32
 pub given-long : (bytes : List ℕ) (c : Call) (x : List ℕ) → instructing bytes c ≡ given x → length bytes ≡ 32
 unfolding instructing

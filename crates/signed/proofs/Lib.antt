@@ -1,4 +1,3 @@
-pub mod Bits
 pub mod Orders
 pub mod Signs
 pub mod Whole

@@ -1,12 +1,12 @@
 -- Tests of whole numbers, read as facts and back. Assumes nothing.
 use mathlib.Core.Path.{◌≡◌, refl, sym, ap, subst, ◌∙◌}
 use mathlib.Core.Logic.{◌⊎◌, inl, inr}
-use mathlib.Core.Bool.{Bool, true, false, ◌&&◌}
-use Prim.Native.Nat.{ℕ, ◌+◌, ◌≤◌, ◌<◌}
+use mathlib.Core.Bool.{Bool, true, false}
+use Prim.Native.Nat.{ℕ, ◌+◌, ◌<◌}
 use native.Mathlib.Omega.{arith}
-use native.Mathlib.Decide.{dec_lt, dec_le}
-use borrow.Author.Tests.{leb-false, ltb-false, eqb-true, le-leb, lt-leb, eq-eqb, ne_eqb, lt-ltb, le-ltb}
-use lib.Dec.{T, leb, ltb, eqb, leb-zero}
+use native.Mathlib.Decide.{dec_lt}
+use borrow.Author.Tests.{leb-false, ltb-false, eqb-true, eq-eqb, ne_eqb, lt-ltb, le-ltb}
+use lib.Dec.{T, ltb, eqb, leb-zero}
 use lib.IntN.{ℤ, pos, negsuc, ◌+ℤ◌, ◌-ℤ◌}
 use lib.Signed.{le_z, lt_z, ◌≤ℤ◌, ◌<ℤ◌, le_z_yes, lt_z_yes}
 use Rattle.common.proofs.Tests.{both_true}
@@ -117,24 +117,3 @@ module _ (s f b o d t : ℕ) where
           let same_test : eq_z (pos s) u ≡ true = subst (λ z. eq_z (pos s) z ≡ true) p (eq_z-refl (pos s)) in
           let clash : ◌≡◌ {A = ℕ} 0 1 = cc in
           omega arith))
-
--- ---- a test of whole numbers as one of natural numbers
-pub le_z-leb : (a b : ℤ) (m n : ℕ) → (a ≤ℤ b → m ≤ n) → (m ≤ n → a ≤ℤ b) → le_z a b ≡ leb m n
-le_z-leb a b m n f g = by (dec_le m n)
-  where
-    never : ¬ (m ≤ n) → (c : Bool) → le_z a b ≡ c → c ≡ false
-    never h true e = absurd (h (f (le_z-true e)))
-    never h false e = refl
-
-    by : Dec (m ≤ n) → le_z a b ≡ leb m n
-    by (yes h) = true-le_z (g h) ∙ sym (le-leb m n h)
-    by (no h) = never h (le_z a b) refl ∙ sym (lt-leb m n (omega arith))
-
--- low ≤ s + p ≤ size − h
-pub between_is : (low s size h : ℕ) (p : ℤ)
-    → within (pos low) (pos s +ℤ p) (pos size -ℤ pos h) ≡ leb (low + below p) (s + above p) && leb (s + above p + h) (size + below p)
-between_is low s size h p =
-    rw (
-      le_z-leb (pos low) (pos s +ℤ p) (low + below p) (s + above p) (λ k. omega (arith, whole, sum (pos s) p)) (λ k. omega (arith, whole, sum (pos s) p)),
-      le_z-leb (pos s +ℤ p) (pos size -ℤ pos h) (s + above p + h) (size + below p) (λ k. omega (arith, whole, sum (pos s) p, less (pos size) (pos h))) (λ k. omega (arith, whole, sum (pos s) p, less (pos size) (pos h))),
-    )

@@ -1,59 +1,16 @@
 -- An `i64` by its sign: what the test `z < 0` tells of the number z, and differences of natural numbers as whole ones.
 -- A signed local holds bits, so a test, a cast or a difference speaks of `to_z w64 (of_z w64 z)`, which is z since z fits.
 -- Assumes nothing.
-use mathlib.Core.Path.{◌≡◌, refl, sym, subst, ◌∙◌}
-use mathlib.Core.Bool.{true, false}
+use mathlib.Core.Path.{◌≡◌, refl, sym, ◌∙◌}
 use Prim.Native.Nat.{ℕ, suc, ◌+◌, ◌-◌, ◌≤◌, ◌<◌, ◌^◌, min}
 use native.Mathlib.Omega.{arith}
 use native.Mathlib.Decide.{dec_lt, dec_le}
-use borrow.Author.Tests.{ltb-true, le-leb, lt-leb}
-use lib.Dec.{T, leb, leb-zero}
+use borrow.Author.Tests.{le-leb, lt-leb}
+use lib.Dec.{leb, leb-zero}
 use lib.IntN.{ℤ, pos, negsuc, ◌-ℤ◌}
-use lib.Signed.{lt_z, le_z, mag}
-use mir.Syntax.{w64}
-use mir.Val.{SFits, to_z, of_z}
-use mir.Facts.{to_z-of_z}
-use Rattle.signed.specs.Sign.{above, below, nearest}
+use lib.Signed.{le_z}
+use Rattle.signed.specs.Sign.{above, nearest}
 use Rattle.signed.proofs.Whole.{one-sided, less, same}
-
--- ---- after `if z < 0`, by the test's outcome
-
-neg : (z : ℤ) → lt_z z (pos 0) ≡ true → z ≡ negsuc (mag z)
-neg (pos n) e = absurd (let h : n < 0 = ltb-true n 0 e in omega arith)
-neg (negsuc n) e = refl
-
-not_neg : (z : ℤ) → lt_z z (pos 0) ≡ false → z ≡ pos (mag z)
-not_neg (pos n) e = refl
-not_neg (negsuc n) e = absurd (subst T e tt)
-
-pub negative : {z : ℤ} → SFits w64 z → lt_z (to_z w64 (of_z w64 z)) (pos 0) ≡ true → z ≡ negsuc (mag z)
-negative {z} f e = neg z (rw (to_z-of_z f) at e)
-
-pub not_negative : {z : ℤ} → SFits w64 z → lt_z (to_z w64 (of_z w64 z)) (pos 0) ≡ false → z ≡ pos (mag z)
-not_negative {z} f e = not_neg z (rw (to_z-of_z f) at e)
-
--- ---- the parts of an `i64`
-
-pub above-fits : {z : ℤ} → SFits w64 z → above z < 2 ^ 63
-above-fits {z} f = at z f.sfits
-  where
-    at : (z : ℤ) → mag z < 2 ^ 63 → above z < 2 ^ 63
-    at (pos n) h = h
-    at (negsuc n) h = omega arith
-
-pub below-fits : {z : ℤ} → SFits w64 z → below z ≤ 2 ^ 63
-below-fits {z} f = at z f.sfits
-  where
-    at : (z : ℤ) → mag z < 2 ^ 63 → below z ≤ 2 ^ 63
-    at (pos n) h = omega arith
-    at (negsuc n) h = h
-
--- −1 − z of a negative z, and −1 − n
-pub minus-one-minus : (n : ℕ) → negsuc 0 -ℤ negsuc n ≡ pos n
-minus-one-minus n = same (negsuc 0 -ℤ negsuc n) (pos n) (omega (arith, less (negsuc 0) (negsuc n)))
-
-pub minus-one-less : (n : ℕ) → negsuc 0 -ℤ pos n ≡ negsuc n
-minus-one-less n = same (negsuc 0 -ℤ pos n) (negsuc n) (omega (arith, less (negsuc 0) (pos n)))
 
 -- a number that may not be negative is tested by the part above 0
 pub le_z-above : (z : ℤ) (n : ℕ) → le_z z (pos n) ≡ leb (above z) n
