@@ -1,6 +1,4 @@
--- An `i64` by its sign: what the test `z < 0` tells of the number z, and differences of natural numbers as whole ones.
--- A signed local holds bits, so a test, a cast or a difference speaks of `to_z w64 (of_z w64 z)`, which is z since z fits.
--- Assumes nothing.
+-- Whole numbers by their sign, and differences of natural numbers as whole ones. Assumes nothing.
 use mathlib.Core.Path.{◌≡◌, refl, sym, ◌∙◌}
 use Prim.Native.Nat.{ℕ, suc, ◌+◌, ◌-◌, ◌≤◌, ◌<◌, ◌^◌, min}
 use native.Mathlib.Omega.{arith}
