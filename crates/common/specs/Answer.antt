@@ -42,3 +42,8 @@ or_blank blank (given a) = a
 abbrev pub answered : {A E : Type 0} → (E → ℕ) → Result A E → Answer A
 answered number (Ok a) = given a
 answered number (Err e) = refused (number e)
+
+-- the same of a function that gives nothing and changes what it is lent: what that is afterwards
+abbrev pub answered_with : {A E : Type 0} → (E → ℕ) → Result Unit E → A → Answer A
+answered_with number (Ok done) a = given a
+answered_with number (Err e) a = refused (number e)

@@ -1,8 +1,8 @@
 -- Paper 01, "Ledger", and paper 02, No. 7: checking, proposing and closing, each as its whole answer for any record. Assumes
 -- nothing.
-use Rattle.std.specs.Prelude.{◌≡◌, Bool, true, false, not, cond, ◌&&◌, ◌||◌, List, [], ◌∷◌, Option, None, Some, Result, Ok, Err, ℕ, suc, ◌+◌, ◌-◌, ◌*◌, ◌≤◌, ◌<◌, ◌^◌, leb, eqb, ℤ, pos, ◌+ℤ◌, ◌-ℤ◌, get_or, set}
+use Rattle.std.specs.Prelude.{◌≡◌, Bool, true, false, not, cond, ◌&&◌, ◌||◌, List, [], ◌∷◌, Option, None, Some, Result, ℕ, suc, ◌+◌, ◌-◌, ◌*◌, ◌≤◌, ◌<◌, ◌^◌, leb, eqb, ℤ, pos, ◌+ℤ◌, ◌-ℤ◌, get_or, set}
 use Rattle.std.specs.Int.Signed.{lt_z}
-use Rattle.common.specs.Answer.{Answer, refused, given, Cause, cause, checked, answered}
+use Rattle.common.specs.Answer.{Answer, Cause, cause, checked, answered, answered_with}
 use Rattle.common.specs.Periods.{of_period}
 use Rattle.signed.specs.Sign.{above, below, greater, within}
 use Rattle.terms.specs.Terms.{Quantities, Q, REV, ER}
@@ -193,8 +193,7 @@ close_number closes.Energy = 9
 
 -- what a closing gives is the record afterwards
 abbrev pub close_answer_of : Result Unit CloseRefusal → Record → Answer Record
-close_answer_of (Ok done) r = given r
-close_answer_of (Err e) r = refused (close_number e)
+close_answer_of = answered_with close_number
 
 -- ---- what private functions ask and give
 

@@ -23,14 +23,17 @@ pub enum CheckRefusal {
 
 #[derive(Clone, Copy, Debug, PartialEq, Eq)]
 pub enum ProposeRefusal {
+    // Eight periods are closed, or the record rule is broken.
     Unusable,
 }
 
 #[derive(Clone, Copy, Debug, PartialEq, Eq)]
 pub enum CloseRefusal {
+    // Eight periods are closed, or the record rule is broken.
     Unusable,
     // The trader is not 1 to 4.
     Trader,
+    // The purchase is not accepted.
     Purchase,
     // The count is that of neither rate, or a reading is bad.
     Readings,

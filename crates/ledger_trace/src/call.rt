@@ -1,4 +1,4 @@
-// The lines, each a word and numbers after a blank each, as calls.
+// The calls that lines name: a word, and numbers with a blank before each.
 use common::Directions;
 use energy::curve::{Curve, Point};
 use ledger::Closing;

@@ -12,7 +12,7 @@ use state::{State, Stop};
 use std::io;
 
 // Carries out the lines up to the first malformed one, whose number is printed. One without a line feed is malformed too.
-fn carry_out(rt: &impl Print, input: &[u8]) -> io::Result<()> {
+fn carry_out_lines(rt: &impl Print, input: &[u8]) -> io::Result<()> {
     let mut state = State::new();
     for (i, line) in input.split_inclusive(|b| *b == b'\n').enumerate() {
         let done = match line.strip_suffix(b"\n") {
@@ -41,5 +41,5 @@ fn main(rt: HostRuntime) -> io::Result<()> {
     if 1_000_000 < n {
         return println!(rt; "malformed 0");
     }
-    carry_out(&rt, &input[..n])
+    carry_out_lines(&rt, &input[..n])
 }

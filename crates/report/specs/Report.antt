@@ -1,7 +1,7 @@
 -- Paper 01, "Report": from the input's bytes and a lent output to an answer and every byte of the output afterwards.
 -- Assumes nothing.
-use Rattle.std.specs.Prelude.{not, List, [], ◌∷◌, ◌++◌, ℕ, Result, Ok, Err, ltb, length, drop}
-use Rattle.common.specs.Answer.{Answer, refused, given, or_blank, Cause, cause, checked}
+use Rattle.std.specs.Prelude.{not, List, [], ◌∷◌, ◌++◌, ℕ, Result, ltb, length, drop}
+use Rattle.common.specs.Answer.{Answer, or_blank, Cause, cause, checked, answered_with}
 use Rattle.terms.specs.Terms.{REV, ER}
 use Rattle.monitor.specs.Monitor.{monitor_causes, rows_of}
 use Rattle.report.specs.Input.{well_formed, input_of}
@@ -45,5 +45,4 @@ monitor_refusal MonitorRefusal.Reported = Reported
 
 -- where nothing is refused, a is given
 abbrev pub answer_of : {A : Type 0} → Result Unit ReportRefusal → A → Answer A
-answer_of (Ok done) a = given a
-answer_of (Err refusal) a = refused (refusal_number refusal)
+answer_of = answered_with refusal_number

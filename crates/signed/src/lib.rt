@@ -4,7 +4,7 @@
 ghost use Rattle.std.specs.Prelude.{◌≡◌, pos, ◌-ℤ◌};
 ghost use Rattle.signed.specs.Sign.{above, below, nearest};
 
-const MOST: u64 = 9_223_372_036_854_775_807;
+const MOST: u64 = i64::MAX as u64;
 
 // The part of z above 0.
 pub fn above_zero(z: i64) -> u64
@@ -21,7 +21,7 @@ pub fn below_zero(z: i64) -> u64
     ensures { result ≡ below z }
 {
     if z < 0 {
-        return (-1 - z) as u64 + 1;
+        return z.unsigned_abs();
     }
     0
 }

@@ -6,7 +6,8 @@ ghost use Rattle.terms.specs.Terms.{direction_terms, above1000, power, limit_bro
 
 use common::Refusal;
 
-// A service of Dynamic Response. Per MW: response energy volume and recovery volume in kWh, reserved power in kW.
+// A service of Dynamic Response, to which its constants belong. Per MW: response energy volume and recovery volume in kWh, reserved
+// power in kW.
 pub trait Service {
     const REV: u64;
 
