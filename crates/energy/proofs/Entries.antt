@@ -1,16 +1,16 @@
 -- The loop of `fill_by_table`: below the entry d, the responses by a table were added; and what is added past the last entry.
 -- Assumes nothing.
-use mathlib.Core.Path.{◌≡◌, refl, ◌∙◌}
+use mathlib.Core.Path.{◌≡◌, ◌∙◌}
 use mathlib.Core.List.{List}
 use Prim.Native.Nat.{ℕ, ◌+◌, ◌-◌, ◌*◌, ◌^◌, ◌≤◌, ◌<◌, min}
 use native.Mathlib.Omega.{arith}
-use lib.ListN.{length, get_or, set, length-set}
+use lib.ListN.{length, get_or}
 use Rattle.common.specs.Fraction.{rounded_up}
 use Rattle.energy.specs.Containment.{response_by_table}
 use Rattle.energy.specs.Table.{Added, wholes, FillFits, TableFits}
 use Rattle.energy.proofs.FixedPoint.{start-value}
 use Rattle.energy.proofs.Segments.{first-parts}
-use Rattle.energy.proofs.Tables.{none-added, one_more, same-added, then-added}
+use Rattle.energy.proofs.Tables.{same-added, then-added}
 
 module _ (mw : ℕ) (entries : List ℕ) where
   -- what is added to an entry
@@ -35,19 +35,9 @@ module _ (mw : ℕ) (entries : List ℕ) where
       pub long : length near ≡ length before
       pub so_far : Added 0 d added before near
 
-    pub begin : Adding before 0
-    begin = record { long = refl; so_far = none-added 0 (λ d l h. absurd (omega arith)) }
-
     module _ {near : List ℕ} {d : ℕ} (a : Adding near d) (h : d < length before) (has : d ≤ 500) where
       pub sum_fits : get_or before d 0 + added d < 2 ^ 32 → get_or near d 0 + found d < 2 ^ 32
       sum_fits room = omega (arith, found-is d has, a.so_far.above d (omega arith), room)
-
-      pub turn : Adding (set near d (get_or near d 0 + found d)) (d + 1)
-      turn =
-          record {
-            long = simp length-set a.long;
-            so_far = rw (found-is d has) (one_more a.so_far (omega arith) (omega (arith, a.long)));
-          }
 
   -- ---- past the last entry
 

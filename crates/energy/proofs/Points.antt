@@ -1,4 +1,4 @@
--- The points of a curve: what its rule says of each, and the loops that pass them one by one. Assumes nothing.
+-- The points of a curve: what its rule says of each, and the loop of `fill_by_steps`, which passes them one by one. Assumes nothing.
 use mathlib.Core.Path.{◌≡◌, sym, subst, ◌∙◌}
 use mathlib.Core.Bool.{true, false, ◌&&◌}
 use mathlib.Core.List.{List, ◌∷◌}

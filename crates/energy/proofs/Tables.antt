@@ -1,12 +1,12 @@
 -- Tables: what was added to their entries. Assumes nothing.
 use mathlib.Core.Path.{◌≡◌, refl, sym, ap, ◌∙◌}
 use mathlib.Core.List.{List, ◌++◌}
-use mathlib.Core.Logic.{◌≢◌, ⊎_elim}
+use mathlib.Core.Logic.{⊎_elim}
 use Prim.Native.Nat.{ℕ, zero, suc, ◌+◌, ◌-◌, ◌≤◌, ◌<◌, min}
 use native.Mathlib.Nat.{add-zero}
 use native.Mathlib.Omega.{arith}
-use lib.ListN.{length, get_or, set, replicate, take, drop, length-take, get_or-append}
-use lib.Seq.{get_or-set_same, get_or-set_other, get_or-take, get_or-drop}
+use lib.ListN.{length, get_or, replicate, take, drop, length-take, get_or-append}
+use lib.Seq.{get_or-take, get_or-drop}
 use Rattle.std.proofs.lemmas.Bool.{cases_lt}
 use Rattle.std.proofs.lemmas.List.{get_or-append_right, get_or_past}
 use Rattle.energy.specs.Table.{Added, Room}
@@ -30,19 +30,6 @@ module _ {from : ℕ} {f : ℕ → ℕ} {before : List ℕ} where
       }
 
   module _ {at : ℕ} {after : List ℕ} (a : Added from at f before after) where
-    -- a turn of a loop that adds
-    pub one_more : from ≤ at → at < length after → Added from (at + 1) f before (set after at (get_or after at 0 + f at))
-    one_more l h =
-        let sum = get_or after at 0 + f at in
-        let other : (d : ℕ) → d ≢ at → get_or (set after at sum) d 0 ≡ get_or after d 0 = λ d n. get_or-set_other after at d sum 0 n in
-        record {
-          inside = λ d fd ds.
-              either d at (λ lt. other d (λ p. omega arith) ∙ a.inside d fd lt)
-              (λ ge. let p : d ≡ at = omega arith in rw (p, get_or-set_same after at sum 0 h, a.above at (omega arith)));
-          below = λ d lt. other d (λ p. omega arith) ∙ a.below d lt;
-          above = λ d ge. other d (λ p. omega arith) ∙ a.above d (omega arith);
-        }
-
     pub same-added : (g : ℕ → ℕ) → ((d : ℕ) → from ≤ d → d < at → f d ≡ g d) → Added from at g before after
     same-added g e =
         record {

@@ -40,7 +40,7 @@ Room more table = (d : ℕ) → get_or table d 0 + more < 2 ^ 32
 abbrev pub wholes : ℕ → ℕ → ℕ → ℕ
 wholes first step x = (first + step * x) / 2 ^ 32
 
--- `fill`: the entries, as far as the table goes, stand in order, the parts stay a u64, and what is added fits
+-- `fill`: `to` is not before `from`, as far as the table goes, the parts stay a u64, and what is added fits
 pub record FillFits (first step from to : ℕ) (table : List ℕ) : Type 0 where
   pub order : min (length table) from ≤ to
   pub parts_fit : first + step * (to - from) < 2 ^ 64

@@ -72,7 +72,7 @@ fn period_kwh(sum: u64, count: usize) -> u32
     ensures { result ≡ rounded_up sum (divisor count) }
 {
     let divisor = 2000 * count as u64;
-    ((sum + (divisor - 1)) / divisor) as u32
+    sum.div_ceil(divisor) as u32
 }
 
 // What refusals 1 and 5 let through.

@@ -1,19 +1,23 @@
 -- `energy::period::period_kwh` meets its contract: the energy is at most 500,000 kWh. Assumes nothing.
+use mathlib.Core.Path.{◌∙◌}
+use Prim.Native.Nat.{◌<◌}
 use native.Mathlib.Omega.{arith}
-use Rattle.energy.proofs.Rates.{PeriodRange, period-range}
+use Rattle.energy.specs.Rate.{divisor}
+use Rattle.energy.proofs.Rates.{period-range}
+use Rattle.energy.proofs.Rounding.{up-ceil, up_le}
 use Rattle.energy.proofs.period.period_kwh.Goals as goal
 
-range : (c : goal.Start) → PeriodRange c.args.count
-range c = period-range c.args.count c.requires.0
-
 pub overflow_mul-divisor : goal.overflow_mul-divisor
-overflow_mul-divisor c = omega (arith, range c)
+overflow_mul-divisor c = omega (arith, period-range c.args.count c.requires.0)
 
-pub overflow_sub-result : goal.overflow_sub-result
-overflow_sub-result c = omega (arith, range c)
+pub div_ceil-requires : goal.div_ceil-requires
+div_ceil-requires c = omega (arith, period-range c.args.count c.requires.0)
 
-pub overflow_add-result : goal.overflow_add-result
-overflow_add-result c = omega (arith, range c)
+pub overflow_cast-result : goal.overflow_cast-result
+overflow_cast-result c =
+    let some : 0 < divisor c.args.count = omega (arith, period-range c.args.count c.requires.0) in
+    let is = c.div_ceil.ensures ∙ up-ceil c.args.sum (divisor c.args.count) some in
+    omega (arith, is, up_le c.args.sum (divisor c.args.count) 500000 some (omega (arith, c.requires.1)))
 
-pub nonzero_div-result : goal.nonzero_div-result
-nonzero_div-result c = omega (arith, range c)
+pub returns : goal.returns
+returns c = c.div_ceil.ensures ∙ up-ceil c.args.sum (divisor c.args.count) (omega (arith, period-range c.args.count c.requires.0))
