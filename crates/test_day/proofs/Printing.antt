@@ -83,9 +83,6 @@ module _ (rs page : List ℕ) where
           is = e ∙ rw (w.is, add-one i, more) (rw (zero-add (10 * i)) at both);
         }
 
-    pub done : length rs ≤ i → now ≡ placed 0 (flat_map number_line rs) page
-    done h = w.is ∙ ap (λ (l : List ℕ). placed 0 (flat_map number_line l) page) (take_all i rs h)
-
 -- ---- what is printed
 
 -- 13 and 21 take ten bytes, and readings 36,000

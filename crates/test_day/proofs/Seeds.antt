@@ -114,6 +114,3 @@ module _ (seed : ℕ) where
 
         pub done : given last ≡ filling seed (length before)
         done = rw (f.last-is, end) (sym (gives f.good (length before)))
-
-        pub done-buffer : buffer ≡ filled seed before
-        done-buffer = sym (take_all i buffer (omega (arith, f.long))) ∙ f.begins ∙ ap (λ (n : ℕ). readings n seed) end ∙ sym (fills f.good before)
