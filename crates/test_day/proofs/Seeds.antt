@@ -9,7 +9,7 @@ use native.Mathlib.Numerals.{add-one}
 use native.Mathlib.Omega.{arith}
 use borrow.Author.Tests.{lt-ltb, le-ltb, ltb-false, not-true}
 use lib.ListN.{length, take, set, length-set}
-use lib.Seq.{take_all, take-suc-set}
+use lib.Seq.{take-suc-set}
 use Rattle.common.specs.Answer.{refused, given}
 use Rattle.common.proofs.Answers.{given-clear, given-value}
 use Rattle.common.proofs.Tests.{both_true}
