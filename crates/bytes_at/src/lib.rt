@@ -7,7 +7,7 @@ ghost use Rattle.bytes_at.specs.Numbers.{number, bytes_of, number_at};
 
 // ---- reading
 
-// The i-th byte after `at`, or 0 past the end: so too where no usize is their sum.
+// The i-th byte after `at`, or 0 past the end, also where at + i is no usize.
 fn byte_at(bytes: &[u8], at: usize, i: usize) -> u8
     ensures { result ≡ get_or bytes.now (at + i) 0 }
 {

@@ -75,7 +75,7 @@ impl From<DataRefusal> for QuantityRefusal {
     ghost from_gives = { λ _ refusal. refusal ≡ Data };
 
     fn from(_refusal: DataRefusal) -> QuantityRefusal {
-        Self::Data
+        QuantityRefusal::Data
     }
 }
 
@@ -234,8 +234,8 @@ impl LinePoint for Point {
     }
 }
 
-#[tactic(auto, unfolding(crate::specs::Capability::points_rule))]
 // Two to five points on a line, the first at room 0.
+#[tactic(auto, unfolding(crate::specs::Capability::points_rule))]
 fn points_hold(points: &[Point]) -> bool
     ensures { result ≡ points_rule points.now }
 {
@@ -307,7 +307,7 @@ impl Energies {
         (self.offer <= 10_000_000) & (self.bid <= 10_000_000)
     }
 
-    fn of(self, direction: Direction) -> u32
+    fn in_direction(self, direction: Direction) -> u32
         ensures { result ≡ energy_of (direction_number direction) self }
     {
         match direction {
@@ -321,7 +321,7 @@ impl Energies {
 fn no_quantity(direction: Direction, available: Availability, energies: Energies) -> bool
     ensures { result ≡ no_quantity (direction_number direction) (availability_number available) energies }
 {
-    (available == Availability::Unavailable) | (energies.of(direction) == 0)
+    (available == Availability::Unavailable) | (energies.in_direction(direction) == 0)
 }
 
 #[tactic(auto, unfolding(crate::specs::Quantity::capability_or_limit))]

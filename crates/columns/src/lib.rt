@@ -34,20 +34,20 @@ fn next(f: Field, b: u8) -> Field
     requires { Number.value f < 100000000 }
     ensures { result ≡ Number.next f b }
 {
-    let digit = (48 <= b) & (b <= 57);
+    let digit = (b'0' <= b) & (b <= b'9');
     match f {
         Field::Blank => {
-            if b == 32 {
+            if b == b' ' {
                 return Field::Blank;
             }
             if digit {
-                return Field::Number((b - 48) as u32);
+                return Field::Number((b - b'0') as u32);
             }
             Field::Malformed
         }
         Field::Number(n) => {
             if digit & (0 < n) {
-                return Field::Number(10 * n + (b - 48) as u32);
+                return Field::Number(10 * n + (b - b'0') as u32);
             }
             Field::Malformed
         }
@@ -81,20 +81,20 @@ fn next_column(rest: u64, minus: bool) -> Column
 {
     if 0 < rest {
         return Column {
-            byte: 48 + (rest % 10) as u8,
+            byte: b'0' + (rest % 10) as u8,
             rest: rest / 10,
             minus,
         };
     }
     if minus {
         return Column {
-            byte: 45,
+            byte: b'-',
             rest: 0,
             minus: false,
         };
     }
     Column {
-        byte: 32,
+        byte: b' ',
         rest: 0,
         minus: false,
     }
@@ -108,7 +108,7 @@ fn put(cell: &mut [u8], minus: bool, n: u64)
         return;
     }
     let last = cell.len() - 1;
-    cell[last] = 48 + (n % 10) as u8;
+    cell[last] = b'0' + (n % 10) as u8;
     let mut rest = n / 10;
     let mut due = minus;
     for i in (0..last).rev() {
@@ -153,6 +153,6 @@ pub fn number_line(n: u64) -> [u8; 10]
 {
     let mut line = [0u8; 10];
     put_number(&mut line, 0, 9, n);
-    line[9] = 10;
+    line[9] = b'\n';
     line
 }

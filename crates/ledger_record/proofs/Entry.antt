@@ -64,8 +64,3 @@ module _ (most closed : ℕ) (bounds : List ℕ) (starts : List ℤ) (scheds : L
   step {i = i} s h e =
       let p : suc i - 1 ≡ i = omega arith in
       record { within = omega arith; so_far = rw (add-one i, every-next rule i, p, e, s.so_far) }
-
-  pub done : {holds : Bool} {i : ℕ} → HeldSoFar holds i → 8 ≤ i → holds ≡ within_rule most closed entries
-  done {i = i} s h =
-      let p : i ≡ 8 = omega arith in
-      s.so_far ∙ ap (λ (n : ℕ). every rule (periods_to n)) p

@@ -62,7 +62,7 @@ first_record t curves size first =
 unfoldable pub opening : Terms → Curves → ℕ → ℕ → Answer Record
 opening t curves size first = checked (opening_causes t curves size first) (first_record t curves size first)
 
--- ---- all zero: what stands where an opening is refused
+-- ---- all zero: what a caller may show where an opening is refused
 
 abbrev pub blank_curve : Curve
 blank_curve = record { count = 0; points = replicate 5 blank }

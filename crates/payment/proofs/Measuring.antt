@@ -1,5 +1,5 @@
 -- The loop of `measure`: after i pieces, their seconds and their kW and seconds. Assumes nothing.
-use mathlib.Core.Path.{◌≡◌, refl, ap, ◌∙◌}
+use mathlib.Core.Path.{◌≡◌, ap, ◌∙◌}
 use mathlib.Core.Bool.{true, false}
 use mathlib.Core.List.{List, [], map}
 use Prim.Native.Nat.{ℕ, ◌+◌, ◌*◌, ◌≤◌, ◌<◌}
@@ -38,9 +38,6 @@ module _ (ps : List Piece) where
     pub work-in-all : w + sum (map work (drop i ps)) ≡ sum (map work ps)
     pub few : s ≤ 4294967295 * i
     pub little : w ≤ 1000000 * s
-
-  pub begin : Read 0 0 0
-  begin = record { good = refl; in_all = omega arith; work-in-all = omega arith; few = omega arith; little = omega arith }
 
   module _ {s w i : ℕ} (r : Read s w i) (few : length ps ≤ 64) where
     module _ (d : Piece) (h : i < length ps) where

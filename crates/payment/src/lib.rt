@@ -19,9 +19,11 @@ pub struct Piece {
 pub enum PaymentRefusal {
     // A price above 10,000.
     Price,
+    // The adjustment price above 10,000.
     AdjustmentPrice,
-    // K or F above 1.
+    // K above 1.
     K,
+    // F above 1.
     F,
     // More than 64 pieces, one above 1,000,000 kW, or more than 1,800 seconds together.
     Pieces,

@@ -76,7 +76,7 @@ fn read_terms(line: &[u8]) -> Option<Quantities>
     let dc = columns::number_at(line, 9).number()?;
     let dm = columns::number_at(line, 18).number()?;
     let dr = columns::number_at(line, 27).number()?;
-    if (line[36] == 10) & ((direction == 1) | (direction == 2)) {
+    if (line[36] == b'\n') & ((direction == 1) | (direction == 2)) {
         return Some(Quantities { dc, dm, dr });
     }
     None
@@ -90,7 +90,7 @@ fn read_energies(line: &[u8]) -> Option<Energies>
 {
     let bound = columns::number_at(line, 0).number()?;
     let reported = columns::number_at(line, 9).number()?;
-    if line[18] == 10 {
+    if line[18] == b'\n' {
         return Some(Energies { bound, reported });
     }
     None
@@ -177,7 +177,7 @@ fn put_row(line: &mut [u8], r: Row)
     columns::put_number(line, 47, 9, r.left);
     columns::put_number(line, 56, 2, u64::from(r.flag));
     columns::put_number(line, 58, 2, u64::from(r.verdict));
-    line[60] = 10;
+    line[60] = b'\n';
 }
 
 // The table at the start of the output; the rest of the output stays.

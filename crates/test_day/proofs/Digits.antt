@@ -3,7 +3,7 @@ use mathlib.Core.Path.{◌≡◌, refl, sym, ap, ◌∙◌}
 use mathlib.Core.Bool.{Bool, true, false, not, ◌&&◌, ◌||◌, and-true, and-false}
 use mathlib.Core.List.{List, [], ◌∷◌}
 use Prim.Native.Nat.{ℕ, zero, suc, ◌+◌, ◌*◌, ◌-◌, ◌^◌, ◌≤◌, ◌<◌}
-use native.Mathlib.Nat.{pow-succ', pow-le-pow_right}
+use native.Mathlib.Nat.{pow-succ'}
 use native.Mathlib.Numerals.{add-one}
 use native.Mathlib.Omega.{arith}
 use native.Mathlib.Decide.{ℕ_discrete}
@@ -115,9 +115,6 @@ module _ (text : List ℕ) where
     pub stops : digit here ≡ false → is_line text ≡ false
     unfolding every
     stops bad = r.decides ∙ rw (split, bad)
-
-    pub small-enough : n < 1000000000
-    small-enough = omega (arith, r.small, pow-le-pow_right {n = 10} (lit< tt) {i = i} {j = 9} (omega (arith, before, r.eleven)))
 
     module _ (good : digit here ≡ true) where
       pub range : (48 ≤ here) × (here ≤ 57)

@@ -10,7 +10,7 @@ use borrow.Author.Tests.{lt-ltb, le-ltb, le-leb}
 use borrow.Rule.Slice.PartMut.{put_mid}
 use lib.IntN.{pos}
 use lib.ListN.{length, get_or, take, replicate, length-append, length-take, length-replicate}
-use lib.Seq.{take_all, take-suc}
+use lib.Seq.{take-suc}
 use Rattle.std.specs.List.{flat_map}
 use Rattle.std.specs.Prelude.{Some, None}
 use Rattle.std.proofs.lemmas.Grind.{flat_map-append}
@@ -82,9 +82,6 @@ module _ (rs page : List ℕ) where
           within = omega arith;
           is = e ∙ rw (w.is, add-one i, more) (rw (zero-add (10 * i)) at both);
         }
-
-    pub done : length rs ≤ i → now ≡ placed 0 (flat_map number_line rs) page
-    done h = w.is ∙ ap (λ (l : List ℕ). placed 0 (flat_map number_line l) page) (take_all i rs h)
 
 -- ---- what is printed
 

@@ -9,7 +9,7 @@ use native.Mathlib.Numerals.{add-one}
 use native.Mathlib.Omega.{arith}
 use borrow.Author.Tests.{lt-ltb, le-ltb, ltb-false, not-true}
 use lib.ListN.{length, take, set, length-set}
-use lib.Seq.{take_all, take-suc-set}
+use lib.Seq.{take-suc-set}
 use Rattle.common.specs.Answer.{refused, given}
 use Rattle.common.proofs.Answers.{given-clear, given-value}
 use Rattle.common.proofs.Tests.{both_true}
@@ -114,6 +114,3 @@ module _ (seed : ℕ) where
 
         pub done : given last ≡ filling seed (length before)
         done = rw (f.last-is, end) (sym (gives f.good (length before)))
-
-        pub done-buffer : buffer ≡ filled seed before
-        done-buffer = sym (take_all i buffer (omega (arith, f.long))) ∙ f.begins ∙ ap (λ (n : ℕ). readings n seed) end ∙ sym (fills f.good before)
