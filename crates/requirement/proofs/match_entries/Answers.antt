@@ -45,11 +45,6 @@ loop-i-preserved c =
           (rw (to_z-of_z read, to_z-of_z made) at c.is_noted-same.ensures));
     }
 
-pub next-requires : goal.next-requires
-next-requires c =
-    let at = c.loop-i.invariant in
-    (omega (arith, at.passed_are, c.min-count.ensures), omega (arith, at.so_far.passed.short-le, c.min-count.ensures))
-
 pub returns : goal.returns
 returns c =
     let at = c.loop-i.invariant in
