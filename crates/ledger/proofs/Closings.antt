@@ -1,5 +1,4 @@
--- What a closing learns on its way: the most that an accepted purchase is, what the period energy says, and what is answered.
--- Assumes nothing.
+-- What a closing learns on its way: the most that an accepted purchase is, and what the period energy says. Assumes nothing.
 use mathlib.Core.Path.{◌≡◌, refl, ap, sym, ◌∙◌}
 use mathlib.Core.Bool.{Bool, true, false, not, cond}
 use mathlib.Core.List.{List}
@@ -13,15 +12,15 @@ use Rattle.common.specs.Periods.{of_period}
 use Rattle.signed.specs.Sign.{above, below}
 use Rattle.signed.proofs.Whole.{whole, one-sided, sum, less}
 use Rattle.signed.proofs.Orders.{within-true}
-use Rattle.terms.specs.Terms.{Quantities, REV, ER, above1000}
+use Rattle.terms.specs.Terms.{Quantities, REV, ER}
 use Rattle.requirement.proofs.Need.{needed, needed-is}
-use Rattle.energy.specs.Curve.{Curves, curves_rule}
 use Rattle.energy.specs.Period.{good_readings, bounds_of, period_energy, answer_of}
 use Rattle.energy.specs.declared.period.EnergyRefusal.{EnergyRefusal}
 use Rattle.ledger_record.specs.Rule.{start_at, back_at}
+use Rattle.ledger_record.proofs.Openings.{LetThrough}
 use Rattle.ledger_record.specs.declared.Entries.{Entries}
 use Rattle.ledger_record.specs.declared.Record.{Record}
-use Rattle.ledger.specs.Calls.{unusable, need, floor, ceiling, accepts, Closing, is_trader, new_state, settles, low, high, record_closed, closing}
+use Rattle.ledger.specs.Calls.{need, floor, ceiling, accepts}
 
 -- ---- an accepted purchase lies within the size
 
@@ -40,61 +39,30 @@ accepted-most r p e full large =
       omega (arith, whole, w, sum (pos r.state) p, one-sided p, ap below low),
     )
 
--- ---- the period energy, where 1 and 5 do not hold
-module _ (low high : Quantities) (c : Curves) (xs : List ℕ) (l : above1000 low ≡ false) (h : above1000 high ≡ false) (k : curves_rule c ≡ true)
-    (r : Result (Directions ℕ) EnergyRefusal) (e : answer_of r ≡ period_energy low high c xs) where
-  energy-is : answer_of r ≡ cond (not (good_readings xs)) (refused 6) (given (bounds_of low high c xs))
+-- ---- the period energy of a record that was opened, where 1 and 5 do not hold
+module _ (r : Record) (f : LetThrough r.terms r.curves r.size r.first) (xs : List ℕ)
+    (o : Result (Directions ℕ) EnergyRefusal) (e : answer_of o ≡ period_energy r.terms.low r.terms.high r.curves xs) where
+  energy-is : answer_of o ≡ cond (not (good_readings xs)) (refused 6) (given (bounds_of r.terms.low r.terms.high r.curves xs))
   unfolding period_energy
-  energy-is = e ∙ rw (l, h, k)
+  energy-is = e ∙ rw (f.low-quantity, f.high-quantity, f.curves-hold)
 
   -- no bounds: 6 holds
-  pub no-bounds : ((b : Directions ℕ) → r ≡ Ok b → ⊥) → good_readings xs ≡ false
-  no-bounds t = by r t (good_readings xs) energy-is
+  pub no-bounds : ((b : Directions ℕ) → o ≡ Ok b → ⊥) → good_readings xs ≡ false
+  no-bounds t = by o t (good_readings xs) energy-is
     where
-      by : (r : Result (Directions ℕ) EnergyRefusal) → ((b : Directions ℕ) → r ≡ Ok b → ⊥) → (g : Bool)
-          → answer_of r ≡ cond (not g) (refused 6) (given (bounds_of low high c xs)) → g ≡ false
-      by r t false p = refl
+      by : (o : Result (Directions ℕ) EnergyRefusal) → ((b : Directions ℕ) → o ≡ Ok b → ⊥) → (g : Bool)
+          → answer_of o ≡ cond (not g) (refused 6) (given (bounds_of r.terms.low r.terms.high r.curves xs)) → g ≡ false
+      by o t false p = refl
       by (Ok b) t true p = absurd (t b refl)
       by (Err x) t true p = let z : ◌≡◌ {A = ℕ} 0 1 = cc in absurd (omega arith)
 
   -- bounds: they are the readings', and 6 does not hold
-  pub bounds-are : (b : Directions ℕ) → r ≡ Ok b → (good_readings xs ≡ true) × (b ≡ bounds_of low high c xs)
-  bounds-are b q = by (good_readings xs) refl (sym (ap answer_of q) ∙ energy-is)
+  pub bounds-are : {b : Directions ℕ} → o ≡ Ok b → (good_readings xs ≡ true) × (b ≡ bounds_of r.terms.low r.terms.high r.curves xs)
+  bounds-are {b} q = by (good_readings xs) refl (sym (ap answer_of q) ∙ energy-is)
     where
       same : (a b : Directions ℕ) → given a ≡ given b → a ≡ b
       same a b p = cc
 
-      by : (g : Bool) → good_readings xs ≡ g → given b ≡ cond (not g) (refused 6) (given (bounds_of low high c xs))
-          → (good_readings xs ≡ true) × (b ≡ bounds_of low high c xs)
+      by : (g : Bool) → good_readings xs ≡ g → given b ≡ cond (not g) (refused 6) (given (bounds_of r.terms.low r.terms.high r.curves xs)) → (good_readings xs ≡ true) × (b ≡ bounds_of r.terms.low r.terms.high r.curves xs)
       by false f p = let z : ◌≡◌ {A = ℕ} 0 1 = cc in absurd (omega arith)
-      by true f p = (f, same b (bounds_of low high c xs) p)
-
--- ---- what a closing answers, by its causes in their order
-module _ (r : Record) (c : Closing) where
-  pub refused-10 : unusable r ≡ true → closing r c ≡ refused 10
-  unfolding closing
-  refused-10 u = rw u
-
-  module _ (u : unusable r ≡ false) where
-    pub refused-19 : is_trader c.trader ≡ false → closing r c ≡ refused 19
-    unfolding closing
-    refused-19 t = rw (u, t)
-
-    module _ (t : is_trader c.trader ≡ true) where
-      pub refused-8 : accepts r c.purchase ≡ false → closing r c ≡ refused 8
-      unfolding closing
-      refused-8 a = rw (u, t, a)
-
-      module _ (a : accepts r c.purchase ≡ true) where
-        pub refused-6 : good_readings c.readings ≡ false → closing r c ≡ refused 6
-        unfolding closing
-        refused-6 g = rw (u, t, a, g)
-
-        module _ (g : good_readings c.readings ≡ true) where
-          pub refused-9 : settles (low r c) (high r c) r.size c.delivered c.taken (new_state (pos r.state) c) ≡ false → closing r c ≡ refused 9
-          unfolding closing
-          refused-9 s = rw (u, t, a, g, s)
-
-          pub carried-out : settles (low r c) (high r c) r.size c.delivered c.taken (new_state (pos r.state) c) ≡ true → closing r c ≡ given (record_closed r c)
-          unfolding closing
-          carried-out s = rw (u, t, a, g, s)
+      by true f p = (f, same b (bounds_of r.terms.low r.terms.high r.curves xs) p)

@@ -1,12 +1,16 @@
 -- The calls by what the next period begins with: floor and ceiling, and the entries of a closing. Assumes nothing.
 use mathlib.Core.Path.{◌≡◌, ap, ◌∙◌}
-use mathlib.Core.Bool.{false}
+use mathlib.Core.Bool.{Bool, false}
 use Prim.Native.Nat.{ℕ, suc, ◌+◌, ◌-◌, ◌*◌, ◌^◌, ◌≤◌, ◌<◌, min}
 use native.Mathlib.Omega.{arith}
 use borrow.Author.Tests.{ltb-false}
 use lib.IntN.{ℤ, pos, ◌+ℤ◌, ◌-ℤ◌}
 use lib.ListN.{length, get_or, set}
 use lib.Seq.{get_or-set_same, get_or-set_other}
+use mir.Facts.{to_z-of_z}
+use mir.Syntax.{w64}
+use mir.Val.{SFits, to_z, of_z}
+use Rattle.std.specs.Prelude.{Option, Some}
 use Rattle.common.specs.Periods.{of_period}
 use Rattle.signed.specs.Sign.{within}
 use Rattle.terms.specs.Terms.{Quantities, Q, REV, ER, above1000}
@@ -18,9 +22,10 @@ use Rattle.ledger_record.specs.Rule.{start_at, back_at, next_at, standing_of}
 use Rattle.ledger_record.specs.declared.Entries.{Entries}
 use Rattle.ledger_record.specs.declared.Record.{Record}
 use Rattle.ledger_record.specs.declared.Standing.{Standing}
+use Rattle.ledger_record.proofs.Openings.{LetThrough}
 use Rattle.ledger_record.proofs.Kept.{opened}
-use Rattle.ledger.specs.Calls.{unusable, accepts, need, floor, ceiling, need_of, NeedFits, closed_entries}
-use Rattle.ledger.proofs.Usable.{rule-kept, before_eight}
+use Rattle.ledger.specs.Calls.{accepts, need, floor, ceiling, need_of, NeedFits, closed_entries, usable_standing}
+use Rattle.ledger.proofs.Usable.{rule-kept, before_eight, usable, stands}
 
 -- what is needed where the next period begins so
 abbrev needed : Next → ℤ
@@ -42,25 +47,28 @@ need-fits q closed x few =
     }
 
 -- ---- a record that refusal 10 lets through, by its standing
-module _ (r : Record) (s : Standing) (e : unusable r ≡ false) (is : s ≡ standing_of r) where
+module _ (r : Record) {o : Option Standing} (is : o ≡ usable_standing r) {s : Standing} (e : o ≡ Some s) where
+  pub was-opened : LetThrough r.terms r.curves r.size r.first
+  was-opened = opened r (rule-kept r (usable r is e))
+
   pub needs_fit : NeedFits s.low × NeedFits s.high
   unfolding standing_of
   needs_fit =
-      let o = opened r (rule-kept r e) in
-      rw is (need-fits r.terms.low r.closed r.low o.low-quantity, need-fits r.terms.high r.closed r.high o.high-quantity)
+      rw (stands r is e) (need-fits r.terms.low r.closed r.low was-opened.low-quantity, need-fits r.terms.high r.closed r.high was-opened.high-quantity)
 
-  module _ (low high : ℕ) (needs : (pos low ≡ needed s.low) × (pos high ≡ needed s.high)) where
+  module _ {low high : ℕ} (needs : (pos low ≡ needed s.low) × (pos high ≡ needed s.high)) where
     pub floor-is : pos low ≡ floor r
     unfolding standing_of
-    floor-is = needs.0 ∙ rw is (need-is r.terms.low r.closed r.low (before_eight r e))
+    floor-is = needs.0 ∙ rw (stands r is e) (need-is r.terms.low r.closed r.low (before_eight r (usable r is e)))
 
     pub ceiling-is : pos r.size -ℤ pos high ≡ ceiling r
     unfolding standing_of
-    ceiling-is = ap (λ z. pos r.size -ℤ z) (needs.1 ∙ rw is (need-is r.terms.high r.closed r.high (before_eight r e)))
+    ceiling-is = ap (λ z. pos r.size -ℤ z) (needs.1 ∙ rw (stands r is e) (need-is r.terms.high r.closed r.high (before_eight r (usable r is e))))
 
-    pub accepts-is : (p : ℤ) → within (pos low) (pos r.state +ℤ p) (pos r.size -ℤ pos high) ≡ accepts r p
+    -- of a purchase that is an i64
+    pub accepts-is : (p : ℤ) → SFits w64 p → {b : Bool} → b ≡ within (pos low) (pos r.state +ℤ to_z w64 (of_z w64 p)) (pos r.size -ℤ pos high) → b ≡ accepts r p
     unfolding accepts
-    accepts-is p = rw (floor-is, ceiling-is)
+    accepts-is p fits test = test ∙ rw (to_z-of_z fits, floor-is, ceiling-is)
 
 -- ---- entries
 

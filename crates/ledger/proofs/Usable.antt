@@ -36,11 +36,16 @@ module _ (r : Record) where
   unfolding unusable standing_of
   unusable-is s is = rw is
 
-  module _ (o : Option Standing) (is : o ≡ usable_standing r) where
-    pub not_usable : ((s : Standing) → o ≡ Some s → ⊥) → unusable r ≡ true
-    not_usable none = not-false (unusable r) (no_value (not (unusable r)) (standing_of r) o is none)
+module _ (r : Record) {o : Option Standing} (is : o ≡ usable_standing r) where
+  pub not_usable : ((s : Standing) → o ≡ Some s → ⊥) → unusable r ≡ true
+  not_usable none = not-false (unusable r) (no_value (not (unusable r)) (standing_of r) o is none)
 
-    pub can-use : (s : Standing) → o ≡ Some s → (unusable r ≡ false) × (s ≡ standing_of r)
-    can-use s e =
-        let p = cond_some (not (unusable r)) (standing_of r) s (sym is ∙ e) in
-        (not-true (unusable r) p.0, sym p.1)
+  module _ {s : Standing} (e : o ≡ Some s) where
+    there : (not (unusable r) ≡ true) × (standing_of r ≡ s)
+    there = cond_some (not (unusable r)) (standing_of r) s (sym is ∙ e)
+
+    pub usable : unusable r ≡ false
+    usable = not-true (unusable r) there.0
+
+    pub stands : s ≡ standing_of r
+    stands = sym there.1
