@@ -1,6 +1,4 @@
 -- `ledger::check_purchase` meets its contract. Assumes nothing.
-use mathlib.Core.Path.{◌∙◌}
-use mir.Facts.{to_z-of_z}
 use Rattle.ledger.specs.Calls.{checking}
 use Rattle.ledger.proofs.Usable.{not_usable, usable}
 use Rattle.ledger.proofs.NextPeriod.{needs_fit, accepts-is}

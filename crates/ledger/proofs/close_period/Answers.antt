@@ -2,9 +2,6 @@
 use mathlib.Core.Path.{refl, sym, ap, ◌∙◌}
 use Prim.Native.Nat.{ℕ}
 use borrow.Author.Rules.{rules}
-use mir.Facts.{to_z-of_z}
-use mir.Syntax.{w64}
-use mir.Val.{SFits}
 use Rattle.std.proofs.lemmas.Option.{cond_some}
 use Rattle.common.specs.Answer.{given}
 use Rattle.common.specs.declared.Directions.{Directions}
