@@ -51,15 +51,6 @@ module _ {f : ℕ → ℕ} {before mid after : List ℕ} where
         above = λ d h. either d at (λ lt. b.below d lt) (λ ge. b.above d h) ∙ a.above d (omega arith);
       }
 
-  -- one function and then another
-  pub both-added : {end : ℕ} {g : ℕ → ℕ} → Added 0 end f before mid → Added 0 end g mid after → Added 0 end (λ (d : ℕ). f d + g d) before after
-  both-added {end} {g} a b =
-      record {
-        inside = λ d l h. omega (arith, a.inside d l h, b.inside d l h);
-        below = λ d h. absurd (omega arith);
-        above = λ d h. b.above d h ∙ a.above d h;
-      }
-
 -- the room that is left
 pub room-left : {end : ℕ} {f : ℕ → ℕ} {before after : List ℕ} → Added 0 end f before after →
     (more less : ℕ) → ((d : ℕ) → f d ≤ less) → Room (less + more) before → Room more after

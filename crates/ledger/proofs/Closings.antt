@@ -1,6 +1,7 @@
--- What a closing learns on its way: the most that an accepted purchase is, and what the period energy says. Assumes nothing.
+-- What a closing learns on its way: the most that an accepted purchase is, what a settled delivery and taking are, and what the
+-- period energy says. Assumes nothing.
 use mathlib.Core.Path.{◌≡◌, refl, ap, sym, ◌∙◌}
-use mathlib.Core.Bool.{Bool, true, false, not, cond}
+use mathlib.Core.Bool.{Bool, true, false, not, cond, ◌&&◌}
 use mathlib.Core.List.{List}
 use Prim.Native.Nat.{ℕ, suc, ◌≤◌}
 use native.Mathlib.Omega.{arith}
@@ -9,7 +10,8 @@ use Rattle.std.specs.Prelude.{Result, Ok, Err}
 use Rattle.common.specs.Answer.{refused, given}
 use Rattle.common.specs.declared.Directions.{Directions}
 use Rattle.common.specs.Periods.{of_period}
-use Rattle.signed.specs.Sign.{above, below}
+use Rattle.common.proofs.Tests.{both_true}
+use Rattle.signed.specs.Sign.{above, below, within}
 use Rattle.signed.proofs.Whole.{whole, one-sided, sum, less}
 use Rattle.signed.proofs.Orders.{within-true}
 use Rattle.terms.specs.Terms.{Quantities, REV, ER}
@@ -20,7 +22,7 @@ use Rattle.ledger_record.specs.Rule.{start_at, back_at}
 use Rattle.ledger_record.proofs.Openings.{LetThrough}
 use Rattle.ledger_record.specs.declared.Entries.{Entries}
 use Rattle.ledger_record.specs.declared.Record.{Record}
-use Rattle.ledger.specs.Calls.{need, floor, ceiling, accepts}
+use Rattle.ledger.specs.Calls.{need, floor, ceiling, accepts, settles}
 
 -- ---- an accepted purchase lies within the size
 
@@ -37,6 +39,16 @@ accepted-most r p e full large =
     let n = need r.terms.high r.high (suc r.closed) in (
       omega (arith, whole, w, sum (pos r.state) p, less (pos r.size) n, one-sided p, ap below high),
       omega (arith, whole, w, sum (pos r.state) p, one-sided p, ap below low),
+    )
+
+-- ---- what is delivered and taken is at most the bounds where a closing settles
+
+pub settled-most : (low high size : ℕ) (d k new : ℤ) → settles low high size d k new ≡ true → (above d ≤ low) × (above k ≤ high)
+settled-most low high size d k new e =
+    let inside = both_true (within (pos 0) d (pos low) && within (pos 0) k (pos high)) (within (pos 0) new (pos size)) e in
+    let each = both_true (within (pos 0) d (pos low)) (within (pos 0) k (pos high)) inside.0 in (
+      omega (arith, whole, within-true (pos 0) d (pos low) each.0, one-sided d),
+      omega (arith, whole, within-true (pos 0) k (pos high) each.1, one-sided k),
     )
 
 -- ---- the period energy of a record that was opened, where 1 and 5 do not hold

@@ -6,7 +6,6 @@ pub mod Eight
 pub mod Entries
 pub mod History
 pub mod Promise
-pub mod Settling
 pub mod Traders
 pub mod Usable
 pub mod NextPeriod

@@ -1,12 +1,11 @@
 -- Tests of whole numbers, read as facts and back. Assumes nothing.
-use mathlib.Core.Path.{◌≡◌, refl, sym, ap, subst, ◌∙◌}
+use mathlib.Core.Path.{◌≡◌, refl, sym, ap, subst}
 use mathlib.Core.Logic.{◌⊎◌, inl, inr}
 use mathlib.Core.Bool.{Bool, true, false}
-use Prim.Native.Nat.{ℕ, ◌+◌, ◌<◌}
+use Prim.Native.Nat.{ℕ, ◌+◌}
 use native.Mathlib.Omega.{arith}
-use native.Mathlib.Decide.{dec_lt}
-use borrow.Author.Tests.{leb-false, ltb-false, eqb-true, eq-eqb, ne_eqb, lt-ltb, le-ltb}
-use lib.Dec.{T, ltb, eqb, leb-zero}
+use borrow.Author.Tests.{leb-false, ltb-false, eqb-true, eq-eqb, ne_eqb}
+use lib.Dec.{T, eqb, leb-zero}
 use lib.IntN.{ℤ, pos, negsuc, ◌+ℤ◌, ◌-ℤ◌}
 use lib.Signed.{le_z, lt_z, ◌≤ℤ◌, ◌<ℤ◌, le_z_yes, lt_z_yes}
 use Rattle.common.proofs.Tests.{both_true}
@@ -80,14 +79,6 @@ false-lt_z {a} {b} h = by (lt_z a b) refl
     by : (c : Bool) → lt_z a b ≡ c → c ≡ false
     by true e = let l = lt_z-true {a = a} {b = b} e in absurd (omega (arith, whole))
     by false e = refl
-
--- size − h < s, in natural numbers
-pub less-lt_z : (size h s : ℕ) → lt_z (pos size -ℤ pos h) (pos s) ≡ ltb size (s + h)
-less-lt_z size h s = by (dec_lt size (s + h))
-  where
-    by : Dec (size < s + h) → lt_z (pos size -ℤ pos h) (pos s) ≡ ltb size (s + h)
-    by (yes l) = true-lt_z {a = pos size -ℤ pos h} {b = pos s} (omega (arith, whole, less (pos size) (pos h))) ∙ sym (lt-ltb size (s + h) l)
-    by (no l) = false-lt_z {a = pos size -ℤ pos h} {b = pos s} (omega (arith, whole, less (pos size) (pos h))) ∙ sym (le-ltb size (s + h) (omega arith))
 
 eq_z-true : (a b : ℤ) → eq_z a b ≡ true → a ≡ b
 eq_z-true (pos m) (pos n) e = ap pos (eqb-true m n e)

@@ -1,6 +1,6 @@
 -- Whole numbers by their sign, and differences of natural numbers as whole ones. Assumes nothing.
 use mathlib.Core.Path.{◌≡◌, refl, sym, ◌∙◌}
-use Prim.Native.Nat.{ℕ, suc, ◌+◌, ◌-◌, ◌≤◌, ◌<◌, ◌^◌, min}
+use Prim.Native.Nat.{ℕ, suc, ◌-◌, ◌≤◌, ◌<◌, ◌^◌, min}
 use native.Mathlib.Omega.{arith}
 use native.Mathlib.Decide.{dec_lt, dec_le}
 use borrow.Author.Tests.{le-leb, lt-leb}
@@ -38,8 +38,3 @@ module _ (a b : ℕ) where
       by : Dec (a < b) → nearest (pos a -ℤ pos b) ≡ pos a -ℤ pos b
       by (yes h) = let p : min (b - suc a) (2 ^ 63 - 1) ≡ b - suc a = omega arith in rw (sub-neg h, p)
       by (no h) = let p : min (a - b) (2 ^ 63 - 1) ≡ a - b = omega arith in rw (sub-pos (omega arith), p)
-
-pub less-less : (a b c : ℕ) → pos a -ℤ pos b -ℤ pos c ≡ pos a -ℤ pos (c + b)
-less-less a b c =
-    let y = pos a -ℤ pos b in
-    same (y -ℤ pos c) (pos a -ℤ pos (c + b)) (omega (arith, less (pos a) (pos b), less y (pos c), less (pos a) (pos (c + b))))

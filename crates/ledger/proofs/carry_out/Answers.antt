@@ -1,6 +1,5 @@
 -- `ledger::carry_out` meets its contract. Assumes nothing.
 use mathlib.Core.Path.{◌≡◌, ap}
-use mathlib.Core.Bool.{◌&&◌}
 use Prim.Native.Nat.{ℕ, ◌-◌}
 use native.Mathlib.Omega.{arith}
 use borrow.Author.Rules.{rules}
@@ -8,8 +7,6 @@ use borrow.Author.Tests.{ltb-false}
 use lib.IntN.{pos}
 use lib.ListN.{length}
 use Rattle.common.proofs.Lists.{sum-part}
-use Rattle.common.proofs.Tests.{both_true}
-use Rattle.signed.specs.Sign.{within}
 use Rattle.terms.specs.Terms.{Q}
 use Rattle.ledger_record.specs.Rule.{standing_of}
 use Rattle.ledger_record.specs.declared.Record.{Record}
@@ -18,8 +15,7 @@ use Rattle.ledger_record.proofs.Kept.{kept, opened}
 use Rattle.ledger.specs.declared.Closing.{Closing as Asked}
 use Rattle.ledger.specs.Calls.{moved, TotalsFit, closed_record, CanClose}
 use Rattle.ledger.proofs.ByTrader.{trader-in}
-use Rattle.ledger.proofs.Closings.{accepted-most}
-use Rattle.ledger.proofs.Settling.{in_bounds}
+use Rattle.ledger.proofs.Closings.{accepted-most, settled-most}
 use Rattle.ledger.proofs.Usable.{rule-kept, before_eight}
 use Rattle.ledger.proofs.carry_out.Goals as goal
 
@@ -31,8 +27,7 @@ totals_fit g s low high a can low-long high-long =
     let f = opened g rule in
     let n = before_eight g can.usable in
     let most = accepted-most g a.purchase can.accepted kept_here.state-most f.size-most in
-    let new = moved (pos g.state) a.purchase a.delivered a.taken in
-    let i = in_bounds low high a.delivered a.taken (both_true (within (pos 0) a.delivered (pos low) && within (pos 0) a.taken (pos high)) (within (pos 0) new (pos g.size)) can.settled).0 in
+    let i = settled-most low high g.size a.delivered a.taken (moved (pos g.state) a.purchase a.delivered a.taken) can.settled in
     let t = trader-in a.trader can.trader in
     record {
       bought_fits = record { trader = t; fits = omega (arith, most, kept_here.bought-most, n, sum-part g.totals.bought (a.trader - 1)) };

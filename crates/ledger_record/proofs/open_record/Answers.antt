@@ -1,17 +1,14 @@
 -- `ledger_record::open_record` meets its contract. Assumes nothing.
 use mathlib.Core.Path.{sym}
-use mathlib.Core.List.{[]}
-use Rattle.std.proofs.lemmas.Result.{err_from_is_err_and}
-use Rattle.common.proofs.Answers.{given-clear, clear-given, refused-first}
+use native.Mathlib.Omega.{arith}
+use Rattle.std.proofs.lemmas.Grind.{common_steps}
+use Rattle.common.proofs.Answers.{given-clear, clear-given}
 use Rattle.ledger_record.specs.Opening.{opening_causes, first_record, opening}
 use Rattle.ledger_record.proofs.open_record.Goals as goal
 
 pub returns-in_err-check_opening : goal.returns-in_err-check_opening
 unfolding opening opening_causes
-returns-in_err-check_opening c =
-    let a = c.args in
-    let p = err_from_is_err_and c.from_residual.result c.from_residual.ensures.1 in
-    rw (p.1, p.2) (sym (refused-first [] (first_record a.t a.curves a.size a.first) (opening_causes a.t a.curves a.size a.first) tt (sym c.in_err-check_opening.ensures)))
+returns-in_err-check_opening c = grind (arith, common_steps)
 
 pub returns : goal.returns
 unfolding opening

@@ -1,14 +1,12 @@
 -- `energy::table::fill_direction` meets its contract: each service adds its responses. Assumes nothing.
-use mathlib.Core.Path.{◌≡◌, subst, ◌∙◌}
-use mathlib.Core.List.{◌++◌}
-use Prim.Native.Nat.{ℕ, ◌+◌, ◌*◌}
+use Prim.Native.Nat.{◌+◌, ◌*◌}
 use native.Mathlib.Omega.{arith}
-use lib.ListN.{length, take, drop, length-take}
-use Rattle.energy.specs.Period.{responses}
-use Rattle.energy.specs.Table.{Room, Added}
+use lib.ListN.{take}
+use Rattle.std.proofs.lemmas.Grind.{common_steps}
+use Rattle.energy.specs.Table.{Room}
 use Rattle.energy.proofs.Responses.{rules}
 use Rattle.energy.proofs.Shares.{response-le}
-use Rattle.energy.proofs.Tables.{room-left, room-front, both-added, front-added}
+use Rattle.energy.proofs.Tables.{room-left, room-front}
 use Rattle.energy.proofs.table.fill_direction.Given.{Over}
 use Rattle.energy.proofs.table.fill_direction.Goals as goal
 use Rattle.energy.proofs.table.fill_direction.Goals.{After-from, After-fill_service, After-fill_service-2, After-fill_service-3}
@@ -55,14 +53,4 @@ fill_service-requires-3 g c =
     }
 
 pub returns : goal.returns
-returns g c =
-    let n = c.from.result + 1 in
-    let long : length (take n c.args.table.now) ≡ n = simp length-take (omega (arith, c.from.ensures, c.requires.there)) in
-    let second : length c.fill_service.new.table ≡ n = c.fill_service.auto.table ∙ long in
-    let third : length c.fill_service-2.new.table ≡ n = c.fill_service-2.auto.table ∙ second in
-    let all : length c.fill_service-3.new.table ≡ n = c.fill_service-3.auto.table ∙ third in
-    let two = both-added (rw long at c.fill_service.ensures) (rw second at c.fill_service-2.ensures) in
-    let three = both-added two (rw third at c.fill_service-3.ensures) in
-    let last : n ≡ c.args.most + 1 = omega (arith, c.from.ensures) in
-    subst (λ (k : ℕ). Added 0 k (responses c.args.q c.args.curves) c.args.table.now (c.fill_service-3.new.table ++ drop n c.args.table.now)) last
-    (front-added n (omega (arith, c.from.ensures, c.requires.there)) all three)
+returns g c = grind (arith, common_steps)
