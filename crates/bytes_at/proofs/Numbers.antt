@@ -1,13 +1,12 @@
 -- The laws of numbers in bytes: reading what was written gives the number back, writing what was read the bytes. Assumes nothing.
-use mathlib.Core.Path.{◌≡◌, refl, ap, ◌∙◌}
+use mathlib.Core.Path.{◌≡◌, refl, ap}
 use mathlib.Core.List.{List, [], ◌∷◌, ◌++◌}
 use Prim.Native.Nat.{ℕ, zero, suc, ◌+◌, ◌*◌, ◌/◌, ◌%◌, ◌^◌, ◌≤◌, ◌<◌}
-use native.Mathlib.Nat.{add-zero, pow-suc}
+use native.Mathlib.Nat.{pow-suc}
 use native.Mathlib.Decide.{dec_lt}
 use native.Mathlib.Omega.{arith}
-use lib.ListN.{length, get_or, set, take, drop, drop_of_length-le, get_or-eq_default}
+use lib.ListN.{length, get_or, take, drop, replicate, drop_of_length-le, get_or-eq_default}
 use lib.Seq.{take_all, take-nil, take_at, drop_at}
-use Rattle.std.proofs.lemmas.List.{get_or-set_same, get_or-set_other}
 use Rattle.std.specs.Int.{w32, w64, from_le_bytes}
 use Rattle.common.proofs.Lists.{drop-next}
 use Rattle.bytes_at.specs.Numbers.{number, bytes_of, number_at}
@@ -26,25 +25,16 @@ first_byte width at bytes = by (dec_lt at (length bytes))
         let on : length bytes ≤ at + 1 = omega arith in
         rw (drop_of_length-le bytes past, drop_of_length-le bytes on, take-nil {A = ℕ} width, get_or-eq_default bytes 0 past)
 
--- of as many bytes from `at` on, with 0 for those past the end
-pub same_number : (from : List ℕ) (at : ℕ) (bytes : List ℕ) → ((i : ℕ) → i < length from → get_or from i 0 ≡ get_or bytes (at + i) 0)
-    → number from ≡ number_at (length from) at bytes
+-- zeros behind bytes leave their number
+zeros : (n : ℕ) → number (replicate n 0) ≡ 0
 unfolding number
-same_number [] at bytes h = refl
-same_number (b ∷ from) at bytes h =
-    let first : b ≡ get_or bytes at 0 = h 0 (omega arith) ∙ ap (λ (k : ℕ). get_or bytes k 0) (add-zero at) in
-    let on : (i : ℕ) → i < length from → get_or from i 0 ≡ get_or bytes (at + 1 + i) 0 =
-    λ i l. let place : at + suc i ≡ at + 1 + i = omega arith in h (suc i) (omega arith) ∙ ap (λ (k : ℕ). get_or bytes k 0) place in
-    rw (first_byte (length from) at bytes, first, same_number from (at + 1) bytes on)
+zeros zero = refl
+zeros (suc n) = rw (zeros n)
 
--- one byte more
-pub one_more : (from : List ℕ) (at : ℕ) (bytes : List ℕ) (i b : ℕ) → i < length from → b ≡ get_or bytes (at + i) 0
-    → ((k : ℕ) → k < i → get_or from k 0 ≡ get_or bytes (at + k) 0) → (k : ℕ) → k < i + 1 → get_or (set from i b) k 0 ≡ get_or bytes (at + k) 0
-one_more from at bytes i b h is before k l = by (dec_lt k i)
-  where
-    by : Dec (k < i) → get_or (set from i b) k 0 ≡ get_or bytes (at + k) 0
-    by (yes m) = get_or-set_other from i k b 0 (λ e. omega arith) ∙ before k m
-    by (no m) = let here : k ≡ i = omega arith in rw here (get_or-set_same from i b 0 h ∙ is)
+pub zeros_behind : (bytes : List ℕ) (n : ℕ) → number (bytes ++ replicate n 0) ≡ number bytes
+unfolding number
+zeros_behind [] n = zeros n
+zeros_behind (b ∷ bytes) n = rw (zeros_behind bytes n)
 
 -- ---- as std reads and writes them
 

@@ -1,30 +1,22 @@
 // Numbers in a byte slice, read and written at an offset, the lowest byte first: what a C host keeps between calls.
 #![tactic(auto)]
 
-ghost use Rattle.std.specs.Prelude.{◌≡◌, ◌+◌, get_or};
+ghost use Rattle.std.specs.Prelude.{◌≡◌};
 ghost use Rattle.common.specs.Lists.{placed};
 ghost use Rattle.bytes_at.specs.Numbers.{number, bytes_of, number_at};
 
 // ---- reading
 
-// The i-th byte after `at`, or 0 past the end, also where at + i is no usize.
-fn byte_at(bytes: &[u8], at: usize, i: usize) -> u8
-    ensures { result ≡ get_or bytes.now (at + i) 0 }
-{
-    match bytes.get(at.saturating_add(i)) {
-        Some(byte) => *byte,
-        None => 0,
-    }
-}
-
 // N bytes from `at` on, 0 past the end.
 fn bytes_from<const N: usize>(bytes: &[u8], at: usize) -> [u8; N]
     ensures { number result ≡ number_at N at bytes.now }
 {
-    let mut from = [0; N];
-    for i in 0..N {
-        from[i] = byte_at(bytes, at, i);
+    let rest = bytes.get(at..).unwrap_or(&[]);
+    if let Some(all) = rest.first_chunk::<N>() {
+        return *all;
     }
+    let mut from = [0; N];
+    from[..rest.len()].copy_from_slice(rest);
     from
 }
 

@@ -1,14 +1,11 @@
 -- `bytes_at::bytes_from` meets its contract. Assumes nothing.
-use mathlib.Core.Path.{◌≡◌, ◌∙◌}
+use Prim.Native.Nat.{ℕ}
 use native.Mathlib.Omega.{arith}
-use lib.ListN.{length, length-set}
-use Rattle.bytes_at.proofs.Numbers.{one_more, same_number}
-use Rattle.bytes_at.specs.Numbers.{number, number_at}
+use lib.ListN.{drop_of_length-le}
+use Rattle.std.proofs.lemmas.List.{take_all, drop-replicate}
+use Rattle.std.proofs.lemmas.Grind.{common_steps}
+use Rattle.bytes_at.proofs.Numbers.{zeros_behind}
 use Rattle.bytes_at.proofs.bytes_from.Goals as goal
 
 pub returns : goal.returns
-returns g c =
-    let l = c.loop-i in
-    let same : number l.from ≡ number_at (length l.from) c.args.at c.args.bytes.now =
-    same_number l.from c.args.at c.args.bytes.now (λ k h. l.invariant.read k (omega (arith, l.invariant.long))) in
-    rw l.invariant.long at same
+returns g c = rw (drop-replicate {X = ℕ}, zeros_behind) (grind (arith, common_steps, drop_of_length-le, take_all))
