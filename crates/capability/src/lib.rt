@@ -147,7 +147,6 @@ impl Limits {
             & (in_range(self.sil) & (in_range(self.sel) & (in_range(self.mel) & in_range(self.ol))))
     }
 
-    #[tactic(auto, unfolding(crate::specs::Capability::limits_rule))]
     fn hold(self) -> bool
         ensures { result ≡ limits_rule self }
     {
