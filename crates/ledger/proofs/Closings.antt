@@ -75,6 +75,7 @@ module _ (r : Record) (f : LetThrough r.terms r.curves r.size r.first) (xs : Lis
       same : (a b : Directions ℕ) → given a ≡ given b → a ≡ b
       same a b p = cc
 
-      by : (g : Bool) → good_readings xs ≡ g → given b ≡ cond (not g) (refused 6) (given (bounds_of r.terms.low r.terms.high r.curves xs)) → (good_readings xs ≡ true) × (b ≡ bounds_of r.terms.low r.terms.high r.curves xs)
+      by : (g : Bool) → good_readings xs ≡ g → given b ≡ cond (not g) (refused 6) (given (bounds_of r.terms.low r.terms.high r.curves xs))
+          → (good_readings xs ≡ true) × (b ≡ bounds_of r.terms.low r.terms.high r.curves xs)
       by false f p = let z : ◌≡◌ {A = ℕ} 0 1 = cc in absurd (omega arith)
       by true f p = (f, same b (bounds_of r.terms.low r.terms.high r.curves xs) p)

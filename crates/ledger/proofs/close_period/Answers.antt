@@ -28,16 +28,15 @@ of-requires c = needs_fit c.args.given.now c.usable_standing.ensures c.in-Some.i
 pub returns-then-not-accept : goal.returns-then-not-accept
 unfolding closing
 returns-then-not-accept c =
-    let a = c.args.asked in
+    let r = c.args.given.now in
     let is = c.usable_standing.ensures in
     let there = c.in-Some.is in
-    let accepted-is = accepts-is c.args.given.now is there c.of.ensures c.args.asked.purchase (search rules) c.accept.ensures in
-    rw (usable c.args.given.now is there, ← c.is_trader.ensures, c.if-not-is_trader.false, ← accepted-is, c.if-not-accept.true) (record { answer = refl; kept = refl })
+    let accepted-is = accepts-is r is there c.of.ensures c.args.asked.purchase (search rules) c.accept.ensures in
+    rw (usable r is there, ← c.is_trader.ensures, c.if-not-is_trader.false, ← accepted-is, c.if-not-accept.true) (record { answer = refl; kept = refl })
 
 pub returns-in_default-period_energy : goal.returns-in_default-period_energy
 unfolding closing
 returns-in_default-period_energy c =
-    let a = c.args.asked in
     let r = c.args.given.now in
     let is = c.usable_standing.ensures in
     let there = c.in-Some.is in
@@ -48,18 +47,17 @@ returns-in_default-period_energy c =
 pub returns-in_default-settle : goal.returns-in_default-settle
 unfolding closing
 returns-in_default-settle c =
-    let a = c.args.asked in
     let r = c.args.given.now in
     let is = c.usable_standing.ensures in
     let there = c.in-Some.is in
     let accepted-is = accepts-is r is there c.of.ensures c.args.asked.purchase (search rules) c.accept.ensures in
     let b = bounds-are r (was-opened r is there) c.args.readings.now c.period_energy.result c.period_energy.ensures c.in-Ok.is in
     let settle_is = rw b.1 at c.settle.ensures in
-    rw (usable r is there, ← c.is_trader.ensures, c.if-not-is_trader.false, ← accepted-is, c.if-not-accept.false, b.0, no_value _ _ c.settle.result settle_is c.in_default-settle.not-Some) (record { answer = refl; kept = refl })
+    let none = no_value _ _ c.settle.result settle_is c.in_default-settle.not-Some in
+    rw (usable r is there, ← c.is_trader.ensures, c.if-not-is_trader.false, ← accepted-is, c.if-not-accept.false, b.0, none) (record { answer = refl; kept = refl })
 
 pub carry_out-requires : goal.carry_out-requires
 carry_out-requires c =
-    let a = c.args.asked in
     let r = c.args.given.now in
     let is = c.usable_standing.ensures in
     let there = c.in-Some.is in
@@ -80,7 +78,6 @@ carry_out-requires c =
 pub returns : goal.returns
 unfolding closing
 returns c =
-    let a = c.args.asked in
     let r = c.args.given.now in
     let is = c.usable_standing.ensures in
     let there = c.in-Some.is in
