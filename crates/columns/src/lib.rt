@@ -34,7 +34,7 @@ fn next(f: Field, b: u8) -> Field
     requires { Number.value f < 100000000 }
     ensures { result ≡ Number.next f b }
 {
-    let digit = (b'0' <= b) & (b <= b'9');
+    let digit = b.is_ascii_digit();
     match f {
         Field::Blank => {
             if b == b' ' {

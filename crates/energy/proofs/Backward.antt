@@ -79,6 +79,3 @@ module _ (lows highs rs : List ℕ) where
 
       pub step : Running (k + 1) (low + get_or lows below 0) (high + get_or highs above 0)
       step = record { sums = rw (one_more low_deviation lows rs low_sum t b, one_more high_deviation highs rs high_sum t a) }
-
-    pub done : length rs ≤ k → record { low = low; high = high } ≡ table_sums lows highs rs
-    done h = let e : length rs - k ≡ 0 = omega arith in r.sums ∙ ap (λ (n : ℕ). sums_from n (table_sums lows highs) rs) e

@@ -8,11 +8,9 @@ use borrow.Author.Tests.{eqb-true}
 use lib.Dec.{eqb}
 use lib.ListN.{length}
 use Rattle.common.proofs.Tests.{both_true}
-use Rattle.common.specs.Answer.{Answer, refused, given}
-use Rattle.instructions.specs.declared.Machine.{Machine}
+use Rattle.common.specs.Answer.{refused, given}
 use Rattle.instructions.specs.Instructions.{following}
 use Rattle.host.specs.declared.Call.{Call}
-use Rattle.host.specs.Convention.{coded, done}
 use Rattle.host.specs.MachineBytes.{fields_in, fields_rule, machine_rule, machine_in}
 use Rattle.host.specs.Instruction.{is_event, event_of, in_bytes, instructing}
 

@@ -29,9 +29,6 @@ module _ {a b : ℤ} where
   pub lt_z-true : lt_z a b ≡ true → a <ℤ b
   lt_z-true e = lt_z_yes (is_T e)
 
-  pub true-lt_z : a <ℤ b → lt_z a b ≡ true
-  true-lt_z h = is_true (lt_z a b) h.lt
-
 pub le_z-false : (a b : ℤ) → le_z a b ≡ false → b <ℤ a
 le_z-false (pos a) (pos b) e = <-write (omega (arith, leb-false a b e))
 le_z-false (pos a) (negsuc b) e = omega (arith, whole)
@@ -65,20 +62,6 @@ eq_z-refl (negsuc n) = eq-eqb n n refl
 pub greater-zero : (z : ℤ) → greater (pos 0) z ≡ pos (above z)
 greater-zero (pos n) = rw (leb-zero n)
 greater-zero (negsuc n) = refl
-
-pub false-le_z : {a b : ℤ} → b <ℤ a → le_z a b ≡ false
-false-le_z {a} {b} h = by (le_z a b) refl
-  where
-    by : (c : Bool) → le_z a b ≡ c → c ≡ false
-    by true e = let l = le_z-true {a = a} {b = b} e in absurd (omega (arith, whole))
-    by false e = refl
-
-pub false-lt_z : {a b : ℤ} → b ≤ℤ a → lt_z a b ≡ false
-false-lt_z {a} {b} h = by (lt_z a b) refl
-  where
-    by : (c : Bool) → lt_z a b ≡ c → c ≡ false
-    by true e = let l = lt_z-true {a = a} {b = b} e in absurd (omega (arith, whole))
-    by false e = refl
 
 eq_z-true : (a b : ℤ) → eq_z a b ≡ true → a ≡ b
 eq_z-true (pos m) (pos n) e = ap pos (eqb-true m n e)

@@ -9,7 +9,7 @@ use Rattle.energy.specs.Table.{Added}
 use Rattle.energy.proofs.Entries.{added, found-is, sum_fits, fill-fits, filled}
 use Rattle.energy.proofs.Tables.{front-added}
 use Rattle.energy.proofs.table.fill_by_table.Goals as goal
-use Rattle.energy.proofs.table.fill_by_table.Goals.{After-response_by_entry, After-loop-d}
+use Rattle.energy.proofs.table.fill_by_table.Goals.{After-loop-d}
 
 pub overflow_cast-entry : goal.overflow_cast-entry
 overflow_cast-entry c =

@@ -9,7 +9,7 @@ use Rattle.energy.proofs.Shares.{response-le}
 use Rattle.energy.proofs.Tables.{room-left, room-front}
 use Rattle.energy.proofs.table.fill_direction.Given.{Over}
 use Rattle.energy.proofs.table.fill_direction.Goals as goal
-use Rattle.energy.proofs.table.fill_direction.Goals.{After-from, After-fill_service, After-fill_service-2, After-fill_service-3}
+use Rattle.energy.proofs.table.fill_direction.Goals.{After-from, After-fill_service, After-fill_service-2}
 
 -- the room before each service adds
 
