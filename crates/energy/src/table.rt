@@ -145,7 +145,7 @@ fn sum_table(lows: &[u32], highs: &[u32], readings: &[u16]) -> Directions<u64>
     for reading in readings.iter().rev() {
         let reading = u32::from(*reading);
         let above = reading.saturating_sub(50000);
-        let below = 50000u32.saturating_sub(reading);
+        let below = 50000 + above - reading;
         low += u64::from(lows[below as usize]);
         high += u64::from(highs[above as usize]);
     }
