@@ -5,7 +5,7 @@ ghost use Rattle.energy.specs.Curve.{points_of, in_range, rises, curve_rule, cur
 use common::{LinePoint, is_line};
 use terms::Services;
 
-#[derive(Clone, Copy, Debug, PartialEq, Eq)]
+#[derive(Clone, Copy, Debug, Default, PartialEq, Eq)]
 pub struct Point {
     pub deviation: u16,
     pub share: u16,
@@ -26,7 +26,7 @@ impl LinePoint for Point {
 }
 
 // Points past the count are ignored.
-#[derive(Clone, Copy)]
+#[derive(Clone, Copy, Default)]
 pub struct Curve {
     pub count: u8,
     pub points: [Point; 5],

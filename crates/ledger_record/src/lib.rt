@@ -15,7 +15,7 @@ use terms::{DirectionTerms, Quantities, Terms};
 
 // A direction's bound, requirement (its start) and schedule of each closed period. The papers' definitions read each as a list of its
 // own.
-#[derive(Clone, Copy)]
+#[derive(Clone, Copy, Default)]
 pub struct Entries {
     pub bounds: [u32; 8],
     pub starts: [i64; 8],
@@ -23,7 +23,7 @@ pub struct Entries {
 }
 
 // What each of the traders 1 to 4 bought and sold, and what was delivered and taken, in the closed periods.
-#[derive(Clone, Copy)]
+#[derive(Clone, Copy, Default)]
 pub struct Totals {
     pub bought: [u32; 4],
     pub sold: [u32; 4],
@@ -115,11 +115,6 @@ fn check_opening(t: Terms, curves: Curves, size: u32, first: u32) -> Result<(), 
 fn first_record(terms: Terms, curves: Curves, size: u32, first: u32) -> Record
     ensures { result ≡ first_record terms curves size first }
 {
-    let none = Entries {
-        bounds: [0; 8],
-        starts: [0; 8],
-        scheds: [0; 8],
-    };
     Record {
         terms,
         curves,
@@ -127,14 +122,9 @@ fn first_record(terms: Terms, curves: Curves, size: u32, first: u32) -> Record
         first,
         state: first,
         closed: 0,
-        low: none,
-        high: none,
-        totals: Totals {
-            bought: [0; 4],
-            sold: [0; 4],
-            delivered: 0,
-            taken: 0,
-        },
+        low: Entries::default(),
+        high: Entries::default(),
+        totals: Totals::default(),
     }
 }
 
@@ -142,30 +132,7 @@ fn first_record(terms: Terms, curves: Curves, size: u32, first: u32) -> Record
 pub fn blank_record() -> Record
     ensures { result ≡ blank_record }
 {
-    let none = Quantities {
-        dc: 0,
-        dm: 0,
-        dr: 0,
-    };
-    let t = Terms {
-        low: none,
-        high: none,
-        export_limit: 0,
-        import_limit: 0,
-    };
-    let blank = Curve {
-        count: 0,
-        points: [Point {
-            deviation: 0,
-            share: 0,
-        }; 5],
-    };
-    let curves = Curves {
-        dc: blank,
-        dm: blank,
-        dr: blank,
-    };
-    first_record(t, curves, 0, 0)
+    first_record(Terms::default(), Curves::default(), 0, 0)
 }
 
 // Opens a record: refusals 1, 2, 5, 3, 4.

@@ -97,10 +97,7 @@ fn terms(parts: &mut Split<'_, char>) -> Option<Terms> {
 
 // The points that the line has, and after them points of 0.
 fn curve(parts: &mut Split<'_, char>) -> Option<Curve> {
-    let mut points = [Point {
-        deviation: 0,
-        share: 0,
-    }; 5];
+    let mut points = [Point::default(); 5];
     let mut count = 0;
     for (i, point) in points.iter_mut().enumerate() {
         let Some(deviation) = parts.next() else {

@@ -50,7 +50,7 @@ impl Service for Regulation {
 }
 
 // One value for each service.
-#[derive(Clone, Copy)]
+#[derive(Clone, Copy, Default)]
 pub struct Services<T> {
     pub dc: T,
     pub dm: T,
@@ -88,7 +88,7 @@ impl DirectionTerms {
 }
 
 // Both directions, and the power limits in kW.
-#[derive(Clone, Copy)]
+#[derive(Clone, Copy, Default)]
 pub struct Terms {
     pub low: Quantities,
     pub high: Quantities,
