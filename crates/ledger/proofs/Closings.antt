@@ -14,12 +14,12 @@ use Rattle.common.proofs.Tests.{both_true}
 use Rattle.signed.specs.Sign.{above, below, within}
 use Rattle.signed.proofs.Whole.{whole, one-sided, sum, less}
 use Rattle.signed.proofs.Orders.{within-true}
-use Rattle.terms.specs.Terms.{Quantities, REV, ER}
+use Rattle.terms.specs.Terms.{Quantities, REV, ER, above1000}
 use Rattle.requirement.proofs.Need.{needed, needed-is}
+use Rattle.energy.specs.Curve.{Curves, curves_rule}
 use Rattle.energy.specs.Period.{good_readings, bounds_of, period_energy, answer_of}
 use Rattle.energy.specs.declared.period.EnergyRefusal.{EnergyRefusal}
 use Rattle.ledger_record.specs.Rule.{start_at, back_at}
-use Rattle.ledger_record.proofs.Openings.{LetThrough}
 use Rattle.ledger_record.specs.declared.Entries.{Entries}
 use Rattle.ledger_record.specs.declared.Record.{Record}
 use Rattle.ledger.specs.Calls.{need, floor, ceiling, accepts, settles}
@@ -51,31 +51,31 @@ settled-most low high size d k new e =
       omega (arith, whole, within-true (pos 0) k (pos high) each.1, one-sided k),
     )
 
--- ---- the period energy of a record that was opened, where 1 and 5 do not hold
-module _ (r : Record) (f : LetThrough r.terms r.curves r.size r.first) (xs : List ℕ)
-    (o : Result (Directions ℕ) EnergyRefusal) (e : answer_of o ≡ period_energy r.terms.low r.terms.high r.curves xs) where
-  energy-is : answer_of o ≡ cond (not (good_readings xs)) (refused 6) (given (bounds_of r.terms.low r.terms.high r.curves xs))
+-- ---- the period energy, where 1 and 5 do not hold
+module _ (low high : Quantities) (c : Curves) (xs : List ℕ) (l : above1000 low ≡ false) (h : above1000 high ≡ false) (k : curves_rule c ≡ true)
+    (r : Result (Directions ℕ) EnergyRefusal) (e : answer_of r ≡ period_energy low high c xs) where
+  energy-is : answer_of r ≡ cond (not (good_readings xs)) (refused 6) (given (bounds_of low high c xs))
   unfolding period_energy
-  energy-is = e ∙ rw (f.low-quantity, f.high-quantity, f.curves-hold)
+  energy-is = e ∙ rw (l, h, k)
 
   -- no bounds: 6 holds
-  pub no-bounds : ((b : Directions ℕ) → o ≡ Ok b → ⊥) → good_readings xs ≡ false
-  no-bounds t = by o t (good_readings xs) energy-is
+  pub no-bounds : ((b : Directions ℕ) → r ≡ Ok b → ⊥) → good_readings xs ≡ false
+  no-bounds t = by r t (good_readings xs) energy-is
     where
-      by : (o : Result (Directions ℕ) EnergyRefusal) → ((b : Directions ℕ) → o ≡ Ok b → ⊥) → (g : Bool)
-          → answer_of o ≡ cond (not g) (refused 6) (given (bounds_of r.terms.low r.terms.high r.curves xs)) → g ≡ false
-      by o t false p = refl
+      by : (r : Result (Directions ℕ) EnergyRefusal) → ((b : Directions ℕ) → r ≡ Ok b → ⊥) → (g : Bool)
+          → answer_of r ≡ cond (not g) (refused 6) (given (bounds_of low high c xs)) → g ≡ false
+      by r t false p = refl
       by (Ok b) t true p = absurd (t b refl)
       by (Err x) t true p = let z : ◌≡◌ {A = ℕ} 0 1 = cc in absurd (omega arith)
 
   -- bounds: they are the readings', and 6 does not hold
-  pub bounds-are : {b : Directions ℕ} → o ≡ Ok b → (good_readings xs ≡ true) × (b ≡ bounds_of r.terms.low r.terms.high r.curves xs)
-  bounds-are {b} q = by (good_readings xs) refl (sym (ap answer_of q) ∙ energy-is)
+  pub bounds-are : (b : Directions ℕ) → r ≡ Ok b → (good_readings xs ≡ true) × (b ≡ bounds_of low high c xs)
+  bounds-are b q = by (good_readings xs) refl (sym (ap answer_of q) ∙ energy-is)
     where
       same : (a b : Directions ℕ) → given a ≡ given b → a ≡ b
       same a b p = cc
 
-      by : (g : Bool) → good_readings xs ≡ g → given b ≡ cond (not g) (refused 6) (given (bounds_of r.terms.low r.terms.high r.curves xs))
-          → (good_readings xs ≡ true) × (b ≡ bounds_of r.terms.low r.terms.high r.curves xs)
+      by : (g : Bool) → good_readings xs ≡ g → given b ≡ cond (not g) (refused 6) (given (bounds_of low high c xs))
+          → (good_readings xs ≡ true) × (b ≡ bounds_of low high c xs)
       by false f p = let z : ◌≡◌ {A = ℕ} 0 1 = cc in absurd (omega arith)
-      by true f p = (f, same b (bounds_of r.terms.low r.terms.high r.curves xs) p)
+      by true f p = (f, same b (bounds_of low high c xs) p)

@@ -3,3 +3,4 @@ pub mod Kept
 pub mod Laws
 pub mod Openings
 pub mod NextPeriod
+pub mod Zeros

@@ -9,7 +9,7 @@ ghost use Rattle.ledger_record.specs.Opening.{quantity_out, size_out, first_out,
 ghost use Rattle.ledger_record.specs.Rule.{within_rule, direction_of, next_start, totals_rule, passes_both, record_rule, standing_of};
 
 use common::Refusal;
-use energy::curve::{Curve, Curves, Point, curves_hold};
+use energy::curve::{Curves, curves_hold};
 use requirement::Next;
 use terms::{DirectionTerms, Quantities, Terms};
 

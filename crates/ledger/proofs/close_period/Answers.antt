@@ -22,8 +22,9 @@ accepted-is c = accepts-is c.args.given.now c.usable_standing.ensures c.in-Some.
 -- bounds were given: the readings are good, and the bounds theirs
 bounds-here : (c : In-Ok) → (good_readings c.args.readings.now ≡ true) × (c.in-Ok.bounds ≡ bounds_of c.args.given.now.terms.low c.args.given.now.terms.high c.args.given.now.curves c.args.readings.now)
 bounds-here c =
-    let opens = was-opened c.args.given.now c.usable_standing.ensures c.in-Some.is in
-    bounds-are c.args.given.now opens c.args.readings.now c.period_energy.result c.period_energy.ensures c.in-Ok.is
+    let r = c.args.given.now in
+    let opens = was-opened r c.usable_standing.ensures c.in-Some.is in
+    bounds-are r.terms.low r.terms.high r.curves c.args.readings.now opens.low-quantity opens.high-quantity opens.curves-hold c.period_energy.result c.period_energy.ensures c.in-Ok.bounds c.in-Ok.is
 
 pub returns-in_default : goal.returns-in_default
 unfolding closing
@@ -53,7 +54,8 @@ returns-in_default-period_energy c =
     let is = c.usable_standing.ensures in
     let there = c.in-Some.is in
     let accepted = accepted-is (goal.at.returns-in_default-period_energy c).After-accept in
-    let bad = no-bounds r (was-opened r is there) c.args.readings.now c.period_energy.result c.period_energy.ensures c.in_default-period_energy.not-Ok in
+    let opens = was-opened r is there in
+    let bad = no-bounds r.terms.low r.terms.high r.curves c.args.readings.now opens.low-quantity opens.high-quantity opens.curves-hold c.period_energy.result c.period_energy.ensures c.in_default-period_energy.not-Ok in
     rw (usable r is there, ← c.is_trader.ensures, c.if-not-is_trader.false, ← accepted, c.if-not-accept.false, bad) (record { answer = refl; kept = refl })
 
 pub returns-in_default-settle : goal.returns-in_default-settle
