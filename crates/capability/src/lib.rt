@@ -129,16 +129,6 @@ fn in_range(z: i64) -> bool
     (-2_000_000 <= z) & (z <= 2_000_000)
 }
 
-// By how much a is above b; 0 if it is not.
-fn excess(a: i64, b: i64) -> u64
-    ensures { result ≡ above (a -ℤ b) }
-{
-    if a < b {
-        return 0;
-    }
-    a.abs_diff(b)
-}
-
 impl Limits {
     fn each_in_range(self) -> bool
         ensures { result ≡ every in_range (self.mil ∷ self.sil ∷ self.sel ∷ self.mel ∷ self.ol ∷ []) }
@@ -184,10 +174,10 @@ impl Limits {
         ensures { result ≡ above (headroom self) }
     {
         if self.whole_range() | self.at_or_above_sel() {
-            return excess(self.mel, self.ol);
+            return signed::excess(self.mel, self.ol);
         }
         if self.at_or_below_sil() {
-            return excess(self.sil, self.ol);
+            return signed::excess(self.sil, self.ol);
         }
         0
     }
@@ -198,10 +188,10 @@ impl Limits {
         ensures { result ≡ above (footroom self) }
     {
         if self.whole_range() | self.at_or_below_sil() {
-            return excess(self.ol, self.mil);
+            return signed::excess(self.ol, self.mil);
         }
         if self.at_or_above_sel() {
-            return excess(self.ol, self.sel);
+            return signed::excess(self.ol, self.sel);
         }
         0
     }

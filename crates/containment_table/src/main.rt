@@ -7,7 +7,7 @@ use std::io;
 fn main(rt: HostRuntime) -> io::Result<()> {
     let table = interpolated_table();
     for entry in &table {
-        println!(rt; "{:>9}", *entry)?;
+        rt.write_all(&columns::number_line(u64::from(*entry)))?;
     }
     Ok(())
 }

@@ -1,7 +1,8 @@
 // Period energy: the bounds of both directions, from a period's readings.
-ghost use Rattle.std.specs.Prelude.{◌≡◌, ◌*◌, ◌≤◌, true};
+ghost use Rattle.std.specs.Prelude.{◌≡◌, Bool, ◌*◌, ◌≤◌, true, false, is_some};
 ghost use Rattle.common.specs.Fraction.{rounded_up};
-ghost use Rattle.energy.specs.Containment.{Offered};
+ghost use Rattle.energy.specs.Containment.{is_containment, Offered};
+ghost use Rattle.energy.specs.declared.curve.Curve.{Curve};
 ghost use Rattle.energy.specs.Period.{BeforeReadings, from_readings, period_energy, refusal_number, answer_of};
 ghost use Rattle.energy.specs.Rate.{is_period_count, divisor};
 
@@ -37,9 +38,13 @@ impl Refusal for EnergyRefusal {
 
 // How responses are worked out. It decides how long they take, and nothing else.
 pub trait Way {
+    // The curves that it has a table for.
+    ghost has_table: { Curve → Bool };
+
     // A table by which the responses are those of the curve. Where there is none, steps from point to point serve.
     fn table_for(curve: Curve) -> Option<[u32; 501]>
-        ensures { Offered curve result };
+        ensures has { is_some result ≡ has_table curve }
+        ensures offered { Offered curve result };
 }
 
 // By steps for every curve.
@@ -51,12 +56,16 @@ pub struct BySteps;
 pub struct ByTable;
 
 impl Way for BySteps {
+    ghost has_table = { λ _. false };
+
     fn table_for(_curve: Curve) -> Option<[u32; 501]> {
         None
     }
 }
 
 impl Way for ByTable {
+    ghost has_table = { is_containment };
+
     fn table_for(curve: Curve) -> Option<[u32; 501]> {
         if is_containment(curve) {
             Some(stored_table())

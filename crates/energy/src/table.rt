@@ -140,10 +140,9 @@ fn sum_table(lows: &[u32], highs: &[u32], readings: &[u16]) -> Directions<u64>
 {
     let mut low: u64 = 0;
     let mut high: u64 = 0;
-    // `low` and `high` are the sums from the present reading's place on, `sums_from` (specs/Table): the invariant `Running`
-    // (proofs/Backward)
-    for reading in readings.iter().rev() {
-        let reading = u32::from(*reading);
+    // `low` and `high` are the sums from place i on, `sums_from i` (specs/Table): the invariant `Running` (proofs/Backward)
+    for i in (0..readings.len()).rev() {
+        let reading = u32::from(readings[i]);
         let above = reading.saturating_sub(50000);
         let below = 50000 + above - reading;
         low += u64::from(lows[below as usize]);

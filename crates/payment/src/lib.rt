@@ -1,7 +1,7 @@
 // Real-time payment: what a period's pieces of quantity and time pay, in pence.
 #![tactic(auto)]
 
-ghost use Rattle.std.specs.Prelude.{◌≡◌, ◌*◌, ◌≤◌};
+ghost use Rattle.std.specs.Prelude.{◌≡◌, ◌*◌, ◌≤◌, max};
 ghost use Rattle.payment.specs.Exact.{rounded};
 ghost use Rattle.payment.specs.Payment.{measured_of, parts_less, refusal_number, answer_of, cause_of, first_from, payment_causes, paying};
 
@@ -63,6 +63,12 @@ fn measure(pieces: &[Piece]) -> Option<u64>
     Some(work)
 }
 
+fn greater(a: u32, b: u32) -> u32
+    ensures { result ≡ max a b }
+{
+    a.max(b)
+}
+
 // What a kW and second earns less what goes from it, in parts of a penny, times kW and seconds: in whole pence, a half upward. One
 // of gain and loss is 0, and then so is its quotient.
 fn pence(earned: u64, lost: u64, work: u64) -> i64
@@ -103,7 +109,7 @@ pub fn payment(
         return Err(PaymentRefusal::Pieces);
     };
     let short = MILLION - k as u64 * f as u64;
-    let most = price.max(adjustment) as u64;
+    let most = greater(price, adjustment) as u64;
     Ok(pence(price as u64 * MILLION, most * short, work))
 }
 

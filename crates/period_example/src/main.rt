@@ -12,6 +12,10 @@ use energy::rate::{BLOCK_AT_TWENTY, BLOCK_AT_TWO, PERIOD_AT_TWENTY, PERIOD_AT_TW
 use std::io;
 use terms::Quantities;
 
+fn write_number(rt: &impl Print, n: u64) -> io::Result<()> {
+    rt.write_all(&columns::number_line(n))
+}
+
 // Both bounds, or a refusal's number.
 fn write_bounds(rt: &impl Print, readings: &[u16]) -> io::Result<()> {
     let q = Quantities {
@@ -26,18 +30,18 @@ fn write_bounds(rt: &impl Print, readings: &[u16]) -> io::Result<()> {
     };
     match period_energy::<BySteps>(Directions { low: q, high: q }, curves, readings) {
         Ok(bounds) => {
-            println!(rt; "{:>9}", bounds.low)?;
-            println!(rt; "{:>9}", bounds.high)
+            write_number(rt, u64::from(bounds.low))?;
+            write_number(rt, u64::from(bounds.high))
         }
-        Err(refusal) => println!(rt; "{:>9}", refusal.number()),
+        Err(refusal) => write_number(rt, u64::from(refusal.number())),
     }
 }
 
 // Period and place, or nothing for a good block.
 fn write_check(rt: &impl Print, block: &[u16]) -> io::Result<()> {
     if let Err(bad) = check_block(block) {
-        println!(rt; "{:>9}", bad.period)?;
-        println!(rt; "{:>9}", bad.place)?;
+        write_number(rt, u64::from(bad.period))?;
+        write_number(rt, u64::from(bad.place))?;
     }
     Ok(())
 }
@@ -45,9 +49,9 @@ fn write_check(rt: &impl Print, block: &[u16]) -> io::Result<()> {
 fn write_part(rt: &impl Print, block: &[u16], period: u32) -> io::Result<()> {
     let readings = part(block, period);
     if let Some(first) = readings.first() {
-        println!(rt; "{:>9}", *first)?;
+        write_number(rt, u64::from(*first))?;
     }
-    println!(rt; "{:>9}", readings.len())
+    write_number(rt, readings.len() as u64)
 }
 
 // The first reading of period 2 differs from the others, and the one at place 13 is bad.

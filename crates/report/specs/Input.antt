@@ -54,11 +54,12 @@ line_at text (suc (suc before)) = take 19 (drop (37 + 19 * before) text)
 abbrev pub line_end : ℕ → ℕ
 line_end n = 37 + 19 * (n - 1)
 
--- a reader gives its line, keeps its text and goes on to the next line; it gives none where the text ends before the line does
+-- a reader gives its line, keeps its text and goes on to the next line; where the text ends before the line does it gives none and stays
 pub record MovedOn (before : Reader) (line : Option (Bor (List ℕ))) (after : Reader) : Type 0 where
   pub gives : IfSome line (λ l. (l.now ≡ line_at before.text.now before.line) × (1 ≤ before.line) × (line_end before.line ≤ length before.text.now))
   pub keeps : after.text ≡ before.text
   pub goes_on : IfSome line (λ l. after.line ≡ before.line + 1)
+  pub stays : IfNone line (after.line ≡ before.line)
   pub ends : IfNone line (1 ≤ before.line → length before.text.now < line_end before.line)
 
 -- ---- the input

@@ -5,7 +5,7 @@ use std::io;
 
 fn show(rt: &impl Print, input: &[u8], output: &mut [u8]) -> io::Result<()> {
     let number = common::number(report::report(input, output));
-    println!(rt; "{number:>9}")
+    rt.write_all(&columns::number_line(u64::from(number)))
 }
 
 fn show_next(rt: &HostRuntime, room: usize) -> io::Result<()> {

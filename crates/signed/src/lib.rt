@@ -26,6 +26,16 @@ pub fn below_zero(z: i64) -> u64
     0
 }
 
+// By how much a is above b; 0 where it is not.
+pub fn excess(a: i64, b: i64) -> u64
+    ensures { result ≡ above (a -ℤ b) }
+{
+    if b < a {
+        return a.abs_diff(b);
+    }
+    0
+}
+
 // a - b, which may be negative; where no i64 is that number, the nearest one.
 pub fn difference(a: u64, b: u64) -> i64
     ensures { result ≡ nearest (pos a -ℤ pos b) }

@@ -17,8 +17,8 @@ pub pence-requires : goal.pence-requires
 pence-requires c =
     let a = c.args in
     let r = kept_rule _ (sym c.measure.ensures ∙ c.in-Some.is) in
-    let lost : c.max-most.result * (1000000 - a.k * a.f) ≤ 10000000000 =
-    rw c.max-most.ensures (lost-most a.price a.adjustment a.k a.f c.if-price-gt10000.false c.if-adjustment-gt10000.false) in
+    let lost : c.greater-most.result * (1000000 - a.k * a.f) ≤ 10000000000 =
+    rw c.greater-most.ensures (lost-most a.price a.adjustment a.k a.f c.if-price-gt10000.false c.if-adjustment-gt10000.false) in
     (omega arith, lost, omega (arith, r.1, work-most a.pieces.now r.0))
 
 pub returns : goal.returns
@@ -28,6 +28,6 @@ returns c =
     let p = paid a.price a.adjustment a.k a.f a.pieces.now c.if-price-gt10000.false c.if-adjustment-gt10000.false c.if-k-gt1000.false c.if-f-gt1000.false r.0
     (amount-is a.price a.adjustment a.k a.f c.if-k-gt1000.false c.if-f-gt1000.false a.pieces.now) in
     record {
-      answer = rw (to_z-of_z {z = c.pence.result} (record { sfits = c.pence.type_inv }), c.pence.ensures, c.max-most.ensures, r.1) p.0;
+      answer = rw (to_z-of_z {z = c.pence.result} (record { sfits = c.pence.type_inv }), c.pence.ensures, c.greater-most.ensures, r.1) p.0;
       cause = p.1;
     }

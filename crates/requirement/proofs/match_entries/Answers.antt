@@ -1,6 +1,6 @@
 -- `requirement::match_entries` meets its contract. A turn keeps the loop's invariant by `step`. Assumes nothing.
 use mathlib.Core.Path.{◌≡◌, ap, ◌∙◌}
-use Prim.Native.Nat.{◌≤◌, ◌<◌}
+use Prim.Native.Nat.{◌≤◌, ◌<◌, min}
 use native.Mathlib.Omega.{arith}
 use borrow.Author.Rules.{rules}
 use lib.IntN.{pos}
@@ -49,4 +49,5 @@ pub returns : goal.returns
 returns c =
     let at = c.loop-i.invariant in
     let all : c.loop-i.i ≡ c.min-count.result = omega arith in
-    rw (c.next.ensures, at.passed_are, all, at.rev_is, ← c.min-count.ensures) (done _ _ _ _ _ _ at.so_far c.loop-i-test.false)
+    let count : c.min-count.result ≡ min c.args.closed 8 = omega (arith, c.min-count.ensures) in
+    rw (c.next.ensures, at.passed_are, all, at.rev_is, ← count) (done _ _ _ _ _ _ at.so_far c.loop-i-test.false)

@@ -12,7 +12,7 @@ pub fill_by_table-requires : goal.fill_by_table-requires
 fill_by_table-requires g c =
     record {
       mw_most = omega (arith, c.requires.factor_most);
-      room = λ d. omega (arith, c.in-Some.ensures c.args.mw d, response-le c.args.mw c.args.curve c.requires.rule d, c.requires.room d);
+      room = λ d. omega (arith, c.in-Some.ensures.offered c.args.mw d, response-le c.args.mw c.args.curve c.requires.rule d, c.requires.room d);
     }
 
 pub returns-in-None : goal.returns-in-None

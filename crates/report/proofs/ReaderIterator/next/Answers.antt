@@ -12,6 +12,7 @@ returns-then-n-eq1-clause-steps c =
       gives = (rw c.if-n-eq1.true (line_1 x.text.now), omega arith, omega arith);
       keeps = refl;
       goes_on = refl;
+      stays = tt;
       ends = tt;
     }
 
@@ -23,5 +24,6 @@ returns-clause-steps c =
       gives = (rw past (line-at x.text.now x.line (omega arith)), omega arith, omega arith);
       keeps = refl;
       goes_on = refl;
+      stays = tt;
       ends = tt;
     }
