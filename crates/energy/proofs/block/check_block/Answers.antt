@@ -1,7 +1,6 @@
 -- `energy::block::check_block` meets its contract. Assumes nothing.
 use mathlib.Core.Path.{◌≡◌, sym, ◌∙◌}
 use mathlib.Core.Bool.{true}
-use native.Mathlib.Numerals.{add-one}
 use native.Mathlib.Omega.{arith}
 use lib.ListN.{length}
 use Rattle.energy.specs.Rate.{is_block_count}
@@ -38,7 +37,6 @@ returns-after-periods c =
 pub returns-then-not-is_reading : goal.returns-then-not-is_reading
 returns-then-not-is_reading c =
     let each = c.part_length-each.ensures in
-    rw (add-one c.periods.period, add-one c.loop-place.place)
-    (named c.args.readings.now (long (goal.at.returns-then-not-is_reading c).After-part_length-each) c.periods.period c.loop-place.place c.periods-test.true
+    named c.args.readings.now (long (goal.at.returns-then-not-is_reading c).After-part_length-each) c.periods.period c.loop-place.place c.periods-test.true
     (rw each at c.loop-place-test.true) (rw each at c.loop-place.invariant.0)
-    (rw each at (sym c.is_reading.ensures ∙ c.if-not-is_reading.true)))
+    (rw each at (sym c.is_reading.ensures ∙ c.if-not-is_reading.true))
